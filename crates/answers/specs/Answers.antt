@@ -1,0 +1,54 @@
+-- Each answer enum in document 01's terms: one definition that gives every case its value or its refusal's number. Two answers that say the
+-- same are the same.
+use mathlib.Core.Path.{_≡_, refl, ap}
+use mathlib.Core.Bool.{Bool}
+use Prim.Native.Nat.{ℕ}
+use Rattle.answers.specs.Said.{Said, value, refused}
+use Rattle.answers.specs.Refusals.{numberOf, named, named-number, undone-injective}
+use Rattle.answers.specs.declared.Refusal.{Refusal}
+use Rattle.answers.specs.declared.Number.{Number}
+use Rattle.answers.specs.declared.Number.the-variants.{Is as Number·Is, Refused as Number·Refused}
+use Rattle.answers.specs.declared.NarrowNumber.{NarrowNumber}
+use Rattle.answers.specs.declared.NarrowNumber.the-variants.{Is as NarrowNumber·Is, Refused as NarrowNumber·Refused}
+use Rattle.answers.specs.declared.Truth.{Truth}
+use Rattle.answers.specs.declared.Truth.the-variants.{Is as Truth·Is, Refused as Truth·Refused}
+
+abbrev pub numberSays : Number → Said ℕ
+numberSays (Number·Is n) = value n
+numberSays (Number·Refused r) = refused (numberOf r)
+
+abbrev pub narrowNumberSays : NarrowNumber → Said ℕ
+narrowNumberSays (NarrowNumber·Is n) = value n
+narrowNumberSays (NarrowNumber·Refused r) = refused (numberOf r)
+
+abbrev pub truthSays : Truth → Said Bool
+truthSays (Truth·Is b) = value b
+truthSays (Truth·Refused r) = refused (numberOf r)
+
+-- ---- two answers that say the same are the same
+
+-- the answer of an enum that says this, from the enum's own two cases
+abbrev pub saying : {A E : Type 0} → (A → E) → (Refusal → E) → Said A → E
+saying is refuse (value a) = is a
+saying is refuse (refused k) = refuse (named k)
+
+number-back : (r : Number) → saying Number·Is Number·Refused (numberSays r) ≡ r
+number-back (Number·Is n) = refl
+number-back (Number·Refused r) = ap Number·Refused (named-number r)
+
+narrow-number-back : (r : NarrowNumber) → saying NarrowNumber·Is NarrowNumber·Refused (narrowNumberSays r) ≡ r
+narrow-number-back (NarrowNumber·Is n) = refl
+narrow-number-back (NarrowNumber·Refused r) = ap NarrowNumber·Refused (named-number r)
+
+truth-back : (r : Truth) → saying Truth·Is Truth·Refused (truthSays r) ≡ r
+truth-back (Truth·Is b) = refl
+truth-back (Truth·Refused r) = ap Truth·Refused (named-number r)
+
+pub number-says-injective : (r s : Number) → numberSays r ≡ numberSays s → r ≡ s
+number-says-injective = undone-injective numberSays (saying Number·Is Number·Refused) number-back
+
+pub narrow-number-says-injective : (r s : NarrowNumber) → narrowNumberSays r ≡ narrowNumberSays s → r ≡ s
+narrow-number-says-injective = undone-injective narrowNumberSays (saying NarrowNumber·Is NarrowNumber·Refused) narrow-number-back
+
+pub truth-says-injective : (r s : Truth) → truthSays r ≡ truthSays s → r ≡ s
+truth-says-injective = undone-injective truthSays (saying Truth·Is Truth·Refused) truth-back

@@ -1,0 +1,3 @@
+pub mod Said
+pub mod Refusals
+pub mod Answers

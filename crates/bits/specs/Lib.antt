@@ -1,0 +1,4 @@
+pub mod Range
+pub mod Digits
+pub mod Bytes
+pub mod Masks

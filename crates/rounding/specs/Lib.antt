@@ -1,0 +1,5 @@
+pub mod Powers
+pub mod Multiples
+pub mod Narrow
+pub mod Wide
+pub mod Pages
