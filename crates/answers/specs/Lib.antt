@@ -1,3 +1,4 @@
 pub mod Said
+pub mod Faults
 pub mod Refusals
 pub mod Answers

@@ -1,6 +1,6 @@
 -- The refusals by name, and document 01's number for each.
 use mathlib.Core.Path.{_≡_, refl, sym, ap, _∙_}
-use mathlib.Core.List.{List, [], _∷_}
+use mathlib.Core.List.{[], _∷_}
 use Prim.Native.Nat.{ℕ}
 use lib.ListN.{getD}
 use Rattle.answers.specs.declared.Refusal.{Refusal}

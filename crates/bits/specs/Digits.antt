@@ -1,6 +1,6 @@
 -- The binary digits of a number as Booleans, the number made of given digits, and what the machine's operations do to them. Every law is over
 -- the width and the place, and follows from one step: the lowest digit is `n % 2`, and `n / 2` holds the rest. Rests on `Range`.
-use mathlib.Core.Path.{_≡_, refl, sym, ap, ap₂, _∙_, subst}
+use mathlib.Core.Path.{_≡_, refl, sym, ap, ap₂, _∙_}
 use mathlib.Core.Bool.{Bool, true, false, not, _&&_, _||_, true≢false, false≢true}
 use Prim.Native.Nat.{ℕ, zero, suc, _+_, _-_, _*_, _/_, _%_, _^_, _≤_, _<_, zero-le, min, max}
 use native.Mathlib.Nat.{zero-lt-suc, le-of-suc-le-suc, not-suc-le-zero, mod-lt, mod-one, mod-eq-of-lt, div-one, div-add-mod', div-div-eq-div-mul, mul-one, mul-comm, mul-div-cancel, mul-mod-left, zero-add, suc-add, sub-zero, suc-sub-suc, pow-suc, zero-min, min-zero, suc-min-suc, zero-max, max-zero, suc-max-suc}

@@ -3,14 +3,15 @@
 use mathlib.Core.Path.{_≡_, refl, sym, ap, _∙_}
 use mathlib.Core.Logic.{_↔_, inl}
 use mathlib.Core.Bool.{Bool, true, false, _&&_}
-use mathlib.Core.List.{List, [], _∷_}
-use Prim.Native.Nat.{ℕ, _+_, _-_, _*_, _/_, _%_, _^_, _≤_, _<_, min}
+use mathlib.Core.List.{[], _∷_}
+use Prim.Native.Nat.{ℕ, _-_, _^_, _≤_, _<_, min}
 use native.Mathlib.Nat.{min-eq-left}
 use native.Mathlib.Omega.{arith}
 use lib.Count.{ones, ones-ones}
 use lib.Dec.{T, leb, ltb}
 use borrow.Author.Tests.{ltb-true, ltb-false, lt-leb}
-use Rattle.answers.specs.Said.{Said, value, refused, _when_, judged, _if_, FaultsDecide, faults-decide, finds-lt, finds-le, finds-both}
+use Rattle.answers.specs.Said.{Said, value, _when_, judged}
+use Rattle.answers.specs.Faults.{_if_, FaultsDecide, faults-decide, finds-lt, finds-le, finds-both}
 use Rattle.answers.specs.Answers.{numberSays, number-says-injective}
 use Rattle.answers.specs.declared.Number.{Number}
 use Rattle.bits.specs.Range.{either, le-of-not-lt}
@@ -74,7 +75,6 @@ pub mask-faults : (s e : ℕ) → FaultsDecide (maskBetween s e) (places s e) ((
 unfolding maskBetween
 mask-faults s e = faults-decide _ _ (places s e) (omega arith) (refl, finds-lt 63 e, λ _. (refl, finds-lt e s, λ _. tt))
 
--- it has ones exactly from bit s to bit e
 and-false : (b : Bool) → b && false ≡ false
 and-false true = refl
 and-false false = refl
@@ -86,6 +86,7 @@ places-digit s e i h =
     (λ t. past-digit _ 64 i (number-lt _ 64) (ltb-false i 64 t)
     ∙ sym (ap (λ (b : Bool). leb s i && b) (lt-leb i e (omega (arith, ltb-false i 64 t))) ∙ and-false (leb s i)))
 
+-- it has ones exactly from bit s to bit e
 pub mask-places : (s e m i : ℕ) → maskBetween s e ≡ value m → T (digit m i) ↔ ((s ≤ i) × (i ≤ e))
 mask-places s e m i said =
     let accepted = mask-faults s e .accepts m .0 said in

@@ -1,5 +1,5 @@
 -- Two questions about the n numbers from s on, for any test: which is the least that passes, and how many pass. Rests on nothing of ours.
-use mathlib.Core.Path.{_≡_, refl, sym, ap, ap₂, _∙_, subst}
+use mathlib.Core.Path.{_≡_, refl, sym, ap, ap₂, _∙_}
 use mathlib.Core.Logic.{⊎-elim}
 use mathlib.Core.Bool.{Bool, true, false, _&&_, true≢false}
 use Prim.Native.Nat.{ℕ, zero, suc, _+_, _≤_, _<_}
@@ -29,8 +29,8 @@ within s n i = leb s i && ltb i (s + n)
 -- ---- a test passes or fails
 
 pub either : {P : Type 0} (b : Bool) → (b ≡ true → P) → (b ≡ false → P) → P
-either true yes′ no′ = yes′ refl
-either false yes′ no′ = no′ refl
+either true passed failed = passed refl
+either false passed failed = failed refl
 
 -- two tests that pass together are equal
 pub same-test : (a b : Bool) → (T a → T b) → (T b → T a) → a ≡ b

@@ -1,18 +1,17 @@
 -- Rounding by masks, over the width w: what the code computes at each way out is what `Multiples` defines. Every width cites these.
 -- Assumes nothing.
-use mathlib.Core.Path.{_≡_, refl, sym, ap, ap₂, _∙_}
-use mathlib.Core.Logic.{_↔_, _⊎_, inl, inr, ⊎-elim}
+use mathlib.Core.Path.{_≡_, refl, sym, ap, _∙_}
 use mathlib.Core.Bool.{Bool, true, false, not}
 use mathlib.Core.List.{List, [], _∷_}
-use Prim.Native.Nat.{ℕ, zero, suc, _+_, _-_, _*_, _/_, _%_, _^_, _≤_, _<_, min}
-use native.Mathlib.Nat.{lt-irrefl, lt-trans, lt-of-le-of-lt, le-trans, le-of-lt, not-le-of-lt, lt-of-not-le, mod-self, mod-lt, mod-eq-of-lt, sub-add-cancel, pow-suc, mul-le-mul-right, lt-of-mul-lt-mul-right}
+use Prim.Native.Nat.{ℕ, zero, suc, _+_, _-_, _*_, _/_, _%_, _^_, _≤_, _<_}
+use native.Mathlib.Nat.{lt-irrefl, le-trans, le-of-lt, not-le-of-lt, mod-self, sub-add-cancel, pow-suc, mul-le-mul-right, lt-of-mul-lt-mul-right}
 use native.Mathlib.Omega.{arith}
 use lib.Arith.{bin-ind}
 use lib.Bits.{bitAnd, and-step, and-self, and-mask, and-high}
-use lib.Dec.{T, eqb, eqb→eq, leb, lit<}
+use lib.Dec.{eqb, eqb→eq, leb}
 use lib.Pow.{pow-pos, pow-add, shr-mod, high-ones, le-ones}
 use borrow.Author.Tests.{eq-eqb, le-leb, lt-leb, not-false}
-use Rattle.answers.specs.Said.{Said, value, refused, Check, _when_, judged}
+use Rattle.answers.specs.Said.{value, refused, Check, _when_, judged}
 use Rattle.bits.specs.Range.{same-test, le-of-not-lt}
 use Rattle.rounding.specs.Powers.{PowerOfTwo, isPower, power-found, power-pos, power-exponent}
 use Rattle.rounding.specs.Multiples.{down, up, up-least, Multiple, alignedUp, alignedDown, aligned}

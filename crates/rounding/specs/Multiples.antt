@@ -1,15 +1,16 @@
 -- Rounding in document 01's terms, over the width w: what each call answers, and that the answers are the least multiple not below, the greatest
 -- not above, and divisibility. Rests on `Powers` and on `answers`.
-use mathlib.Core.Path.{_≡_, refl, sym, ap, _∙_}
+use mathlib.Core.Path.{_≡_, refl}
 use mathlib.Core.Logic.{_↔_, _⊎_, inl, inr, ⊎-elim}
 use mathlib.Core.Bool.{Bool, true, false, not}
-use mathlib.Core.List.{List, [], _∷_}
+use mathlib.Core.List.{[], _∷_}
 use Prim.Native.Nat.{ℕ, _+_, _-_, _*_, _/_, _%_, _^_, _≤_, _<_}
 use native.Mathlib.Nat.{suc-mul, le-trans, lt-of-not-le, not-le-of-lt, le-antisymm, le-of-suc-le-suc, mul-le-mul-right, mul-mod-left, mod-lt, div-add-mod', div-mul-le-self, le-div-iff-mul-le, div-lt-iff-lt-mul}
 use native.Mathlib.Omega.{arith}
 use lib.Dec.{T, leb, eqb, leb→le, le→leb, eqb→eq, not-T, T-not}
 use Rattle.bits.specs.Range.{le-of-not-lt, same-test}
-use Rattle.answers.specs.Said.{Said, value, refused, _when_, judged, _if_, FaultsDecide, faults-decide}
+use Rattle.answers.specs.Said.{Said, value, _when_, judged}
+use Rattle.answers.specs.Faults.{_if_, FaultsDecide, faults-decide}
 use Rattle.rounding.specs.Powers.{PowerOfTwo, isPower, power-found, power-pos, zero-no-power}
 
 -- ---- what is answered

@@ -1,17 +1,18 @@
 -- Pages of 4,096 in document 01's terms: what is answered, the contracts, and what the answers mean. Rests on `Multiples`.
-use mathlib.Core.Path.{_≡_, refl, sym, ap, _∙_}
+use mathlib.Core.Path.{_≡_, refl, sym, _∙_}
 use mathlib.Core.Logic.{_↔_}
-use mathlib.Core.List.{List, [], _∷_}
+use mathlib.Core.List.{[], _∷_}
 use Prim.Native.Nat.{ℕ, _+_, _*_, _/_, _%_, _^_, _≤_, _<_}
-use native.Mathlib.Nat.{zero-lt-suc, mod-lt, div-add-mod', mul-div-cancel, le-of-mul-le-mul-right}
+use native.Mathlib.Nat.{zero-lt-suc, div-add-mod'}
 use native.Mathlib.Omega.{arith}
 use lib.Dec.{T, leb}
-use Rattle.answers.specs.Said.{Said, _when_, _if_, judged, onValue, judged-onValue, FaultsDecide, faults-decide}
+use Rattle.answers.specs.Said.{Said, _when_, judged, onValue, judged-onValue}
+use Rattle.answers.specs.Faults.{_if_, FaultsDecide, faults-decide}
 use Rattle.answers.specs.Answers.{numberSays, number-says-injective}
 use Rattle.answers.specs.declared.Number.{Number}
 use Rattle.bits.specs.Range.{least}
 use Rattle.rounding.specs.Powers.{isPower, exponent}
-use Rattle.rounding.specs.Multiples.{down, up, up-least, alignedUp, NoneFits, finds-none-fits}
+use Rattle.rounding.specs.Multiples.{down, up, alignedUp, NoneFits, finds-none-fits}
 
 -- ---- what is answered
 

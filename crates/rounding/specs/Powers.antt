@@ -1,14 +1,14 @@
 -- Powers of two: what they are, and the test that finds them among the numbers of w bits. Rests on the search of `bits`.
-use mathlib.Core.Path.{_≡_, refl, sym, ap, _∙_}
+use mathlib.Core.Path.{_≡_, sym, _∙_}
 use mathlib.Core.Logic.{_↔_}
-use mathlib.Core.Bool.{Bool, true, false, true≢false}
-use Prim.Native.Nat.{ℕ, _+_, _^_, _≤_, _<_, zero-le}
-use native.Mathlib.Nat.{zero-add, lt-of-not-le, lt-irrefl, lt-of-lt-of-le, lt-of-le-of-lt, le-of-eq, ne-of-gt}
+use mathlib.Core.Bool.{Bool, true≢false}
+use Prim.Native.Nat.{ℕ, _^_, _<_, zero-le}
+use native.Mathlib.Nat.{lt-of-not-le, lt-irrefl, lt-of-lt-of-le, ne-of-gt}
 use native.Mathlib.Omega.{arith}
 use lib.Dec.{T, ltb, eqb, ltb→lt, lt→ltb}
 use lib.Pow.{pow-pos, pow-mono}
 use borrow.Author.Tests.{eqb-true, eq-eqb}
-use Rattle.bits.specs.Range.{least, least-to, least-passes, least-first}
+use Rattle.bits.specs.Range.{least, least-passes, least-first}
 
 -- n is 2 ^ k for some k
 abbrev pub PowerOfTwo : ℕ → Type 0

@@ -1,12 +1,13 @@
 -- Overlap of closed intervals in document 01's terms, what the answer means, and that its contract leaves one answer. Rests on `answers`.
-use mathlib.Core.Path.{_≡_, refl, sym, ap, _∙_}
+use mathlib.Core.Path.{_≡_, refl, sym, _∙_}
 use mathlib.Core.Logic.{_↔_, _⊎_, inl, inr, ⊎-elim}
 use mathlib.Core.Bool.{Bool, _||_}
-use mathlib.Core.List.{List, [], _∷_}
+use mathlib.Core.List.{[], _∷_}
 use Prim.Native.Nat.{ℕ, _≤_, _<_, min, max}
 use native.Mathlib.Omega.{arith}
 use lib.Dec.{T, leb, ltb, leb→le, le→leb}
-use Rattle.answers.specs.Said.{Said, value, _when_, judged, _if_, FaultsDecide, faults-decide, finds-lt, finds-either}
+use Rattle.answers.specs.Said.{Said, value, _when_, judged}
+use Rattle.answers.specs.Faults.{_if_, FaultsDecide, faults-decide, finds-lt, finds-either}
 use Rattle.answers.specs.Answers.{truthSays, truth-says-injective}
 use Rattle.answers.specs.declared.Truth.{Truth}
 use Rattle.bits.specs.Range.{le-of-not-lt, same-test}

@@ -1,8 +1,7 @@
 -- `bits::low_mask` meets its contract: the whole table equals the rows of its rule, and past its end all 64 places are ones.
 -- Assumes nothing.
-use mathlib.Core.Path.{refl, sym, ap, _∙_}
-use Prim.Native.Nat.{ℕ, _-_, _^_, min}
-use native.Mathlib.Nat.{min-eq-left, min-eq-right, le-of-lt}
+use mathlib.Core.Path.{refl}
+use native.Mathlib.Nat.{min-eq-right, le-of-lt}
 use native.Mathlib.Omega.{arith}
 use borrow.Author.Needs.{needs}
 use Rattle.bits.specs.Masks.{lowMask}

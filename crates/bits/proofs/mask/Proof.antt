@@ -1,17 +1,17 @@
 -- `bits::mask` meets its contract: each answer is the case of `maskBetween` that the tests lead to, and ones kept and moved up are the ones asked
 -- for, digit by digit. Assumes nothing.
-use mathlib.Core.Path.{_≡_, refl, sym, ap, ap₂, _∙_}
+use mathlib.Core.Path.{_≡_, sym, ap, _∙_}
 use mathlib.Core.Bool.{Bool, _&&_}
 use Prim.Native.Nat.{ℕ, _+_, _-_, _*_, _/_, _%_, _^_, _≤_, _<_}
 use native.Mathlib.Nat.{mod-lt}
 use native.Mathlib.Omega.{arith}
-use lib.Dec.{leb, ltb, leb→le, le→leb, ltb→lt, lt→ltb}
+use lib.Dec.{leb, leb→le, le→leb, ltb→lt, lt→ltb}
 use lib.Pow.{pow-pos}
 use borrow.Author.Needs.{needs}
 use borrow.Author.Tests.{lt-ltb, le-ltb}
 use Rattle.answers.specs.Said.{value, judged}
 use Rattle.bits.specs.Range.{within, same-test}
-use Rattle.bits.specs.Digits.{digit, number, digit-number, number-lt, equal-digits, run-digit}
+use Rattle.bits.specs.Digits.{number, digit-number, number-lt, equal-digits, run-digit}
 use Rattle.bits.specs.Masks.{maskBetween, places}
 use Rattle.bits.proofs.mask.Statement.{statement}
 use Rattle.bits.proofs.mask.Tie as tie

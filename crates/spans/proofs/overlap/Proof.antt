@@ -1,12 +1,13 @@
 -- `spans::overlap` meets its contract: of two intervals in order, each starts before the other ends exactly when the later start is not past the
 -- earlier end. Assumes nothing.
-use mathlib.Core.Path.{_≡_, sym, ap, ap₂, _∙_}
-use mathlib.Core.Bool.{Bool, _&&_, _||_}
+use mathlib.Core.Path.{_≡_, ap}
+use mathlib.Core.Bool.{_&&_}
 use Prim.Native.Nat.{ℕ, _≤_}
 use native.Mathlib.Omega.{arith}
-use lib.Dec.{leb, ltb, leb→le, le→leb}
+use lib.Dec.{leb, leb→le, le→leb}
 use borrow.Author.Tests.{lt-ltb, le-ltb, le-leb, lt-leb}
-use Rattle.answers.specs.Said.{value, judged, finds-le, finds-both}
+use Rattle.answers.specs.Said.{value, judged}
+use Rattle.answers.specs.Faults.{finds-le, finds-both}
 use Rattle.bits.specs.Range.{same-test}
 use Rattle.spans.specs.Overlap.{meet, overlaps}
 use Rattle.spans.proofs.overlap.Statement.{statement}

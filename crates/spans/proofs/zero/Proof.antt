@@ -1,6 +1,6 @@
 -- `spans::zero` meets its contract. The loop's invariant: the bytes below i are zeros, and the others are as they came. The measure is what is left
 -- of the part. Assumes nothing.
-use mathlib.Core.Path.{_≡_, refl, sym, ap, _∙_}
+use mathlib.Core.Path.{_≡_, refl, _∙_}
 use mathlib.Core.List.{List, _++_, append-nil}
 use Prim.Native.Nat.{ℕ, _-_, _≤_}
 use native.Mathlib.Omega.{arith}

@@ -10,19 +10,13 @@ is-power-requires c κs = search needs
 
 returns : tie.Need-returns
 unfolding alignedDown
-returns c =
-    let start = c .before .before in
-    refused-alignment 32 _ (start .fits .align .fits) _ (c .before .is-power .ensures) _ _ (c .if1 .taken)
+returns c = refused-alignment 32 _ (c .before .before .fits .align .fits) _ (c .before .is-power .ensures) _ _ (c .if1 .taken)
 
 sub-t6 : tie.Need-sub-t6
-sub-t6 c =
-    let start = c .before .before in
-    align-pos 32 _ (start .fits .align .fits) _ (c .before .is-power .ensures) (c .if1 .left)
+sub-t6 c = align-pos 32 _ (c .before .before .fits .align .fits) _ (c .before .is-power .ensures) (c .if1 .left)
 
 returns-2 : tie.Need-returns-2
-returns-2 c =
-    let start = c .before .before in
-    rounded-down 32 _ (start .fits .align .fits) _ (c .before .is-power .ensures) (c .if1 .left) _ (start .fits .value .fits)
+returns-2 c = rounded-down 32 _ (c .before .before .fits .align .fits) _ (c .before .is-power .ensures) (c .if1 .left) _ (c .before .before .fits .value .fits)
 
 pub align-down-spec : {M : Type 1} → statement M
 align-down-spec = tie.close (tie.spec is-power-requires returns sub-t6 returns-2)

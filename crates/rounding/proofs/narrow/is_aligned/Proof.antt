@@ -10,19 +10,13 @@ is-power-requires c κs = search needs
 
 returns : tie.Need-returns
 unfolding aligned
-returns c =
-    let start = c .before .before in
-    refused-alignment 32 _ (start .fits .align .fits) _ (c .before .is-power .ensures) _ _ (c .if1 .taken)
+returns c = refused-alignment 32 _ (c .before .before .fits .align .fits) _ (c .before .is-power .ensures) _ _ (c .if1 .taken)
 
 sub-t6 : tie.Need-sub-t6
-sub-t6 c =
-    let start = c .before .before in
-    align-pos 32 _ (start .fits .align .fits) _ (c .before .is-power .ensures) (c .if1 .left)
+sub-t6 c = align-pos 32 _ (c .before .before .fits .align .fits) _ (c .before .is-power .ensures) (c .if1 .left)
 
 returns-2 : tie.Need-returns-2
-returns-2 c =
-    let start = c .before .before in
-    divided 32 _ (start .fits .align .fits) _ (c .before .is-power .ensures) (c .if1 .left) _
+returns-2 c = divided 32 _ (c .before .before .fits .align .fits) _ (c .before .is-power .ensures) (c .if1 .left) _
 
 pub is-aligned-spec : {M : Type 1} → statement M
 is-aligned-spec = tie.close (tie.spec is-power-requires returns sub-t6 returns-2)

@@ -1,8 +1,6 @@
 -- `rounding::pages::round_to_pages` meets its contract: what `page_align_up` said is handed on, a value after the division. Assumes nothing.
-use mathlib.Core.Path.{sym, ap, _∙_}
 use borrow.Author.Needs.{needs}
 use Rattle.answers.specs.Said.{onValue}
-use Rattle.answers.specs.Answers.{numberSays}
 use Rattle.rounding.specs.Pages.{pages}
 use Rattle.rounding.proofs.pages.round_to_pages.Statement.{statement}
 use Rattle.rounding.proofs.pages.round_to_pages.Tie as tie
