@@ -47,7 +47,7 @@ def align_up(v, a, width=64):
 
 def align_down(v, a):
     refuse(8, not is_power(a))
-    return max(m for m in (v // a * a, 0) if m <= v)
+    return v // a * a
 
 
 def is_aligned(v, a):
