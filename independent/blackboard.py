@@ -71,6 +71,55 @@ def clear(buffer, start, end):
         buffer[offset] = "."
 
 
+# a word map is the set of its used slots; take, claim, free and set give the set that they leave
+
+SLOTS = range(64)
+
+
+def inside(start, n):
+    refuse(2, n == 0)
+    refuse(4, start > 64 or n > 64 - start)
+    return set(range(start, start + n))
+
+
+def take(used, n, a):
+    refuse(2, n == 0)
+    refuse(3, a >= 6)
+    refuse(4, n > 64)
+    for start in SLOTS:
+        if start % 2**a == 0 and start + n <= 64 and used.isdisjoint(inside(start, n)):
+            return start, used | inside(start, n)
+    raise Refused(7)
+
+
+def claim(used, start, n):
+    named = inside(start, n)
+    refuse(6, named & used)
+    return None, used | named
+
+
+def free(used, start, n):
+    named = inside(start, n)
+    refuse(5, named - used)
+    return None, used - named
+
+
+def give(used, start, n, value):
+    named = inside(start, n)
+    return None, used | named if value else used - named
+
+
+def next_free(used, start):
+    refuse(4, start >= 64)
+    refuse(7, all(slot in used for slot in SLOTS if slot >= start))
+    return min(slot for slot in SLOTS if slot >= start and slot not in used)
+
+
+def get(used, slot):
+    refuse(4, slot >= 64)
+    return slot in used
+
+
 # ---- the lines
 
 
@@ -116,7 +165,37 @@ def cleared(start, end):
     print(f"clear {start}..{end} leaves {''.join(buffer)}: {answer}")
 
 
+def changed(words, used, call):
+    try:
+        start, used = call(used)
+        answer = "ok" if start is None else f"at {start}"
+    except Refused as refusal:
+        answer = f"refused {refusal}"
+    picture = "".join("#" if slot in used else "." for slot in SLOTS)
+    print(f"{words}: {answer}, leaves {picture}")
+
+
+def takes(name, n, a):
+    changed(f"{name}: take {n} at a multiple of 2^{a}", MAPS[name], lambda used: take(used, n, a))
+
+
+def claims(name, start, n):
+    changed(f"{name}: claim from {start}, {n}", MAPS[name], lambda used: claim(used, start, n))
+
+
+def frees(name, start, n):
+    changed(f"{name}: free from {start}, {n}", MAPS[name], lambda used: free(used, start, n))
+
+
+def sets(name, start, n, value):
+    words = f"{name}: set {'used' if value else 'free'} from {start}, {n}"
+    changed(words, MAPS[name], lambda used: give(used, start, n, value))
+
+
 TOP = 2**64 - 1
+EMPTY, FULL = "empty word", "full word"
+FIRST, THIRD, TENTH, LOW = "word with slot 0", "word with slot 2", "word with slot 10", "word with slots 0 to 62"
+MAPS = {EMPTY: set(), FULL: set(SLOTS), FIRST: {0}, THIRD: {2}, TENTH: {10}, LOW: set(range(63))}
 
 # the paper's own
 up(4097, 4096)
@@ -128,6 +207,8 @@ for direction in (up, down, multiple):
 intervals(0, 4, 4, 8)
 intervals(0, 3, 4, 8)
 intervals(5, 3, 0, 10)
+takes(EMPTY, 1, 5)
+takes(EMPTY, 1, 6)
 
 # masks
 for k in (0, 1, 63, 64, 65):
@@ -165,3 +246,38 @@ for x in (4096, TOP):
 # clearing
 for start, end in ((0, 8), (2, 5), (0, 1), (3, 3), (8, 8), (5, 2), (0, 9), (12, 9)):
     cleared(start, end)
+
+# the word map
+for n, a in ((64, 5), (0, 6), (65, 6), (65, 5), (TOP, 0), (1, TOP)):
+    takes(EMPTY, n, a)
+takes(FULL, 1, 0)
+for n, a in ((63, 0), (64, 0), (1, 5), (32, 5), (33, 5)):
+    takes(FIRST, n, a)
+for n, a in ((2, 0), (3, 0), (4, 1), (4, 3)):
+    takes(THIRD, n, a)
+takes(LOW, 1, 0)
+takes(LOW, 1, 1)
+for start, n in ((0, 64), (63, 1), (63, 2), (64, 0), (64, 1), (TOP, 2)):
+    claims(EMPTY, start, n)
+claims(TENTH, 8, 2)
+claims(TENTH, 8, 3)
+for start, n in ((0, 64), (63, 1), (0, 0), (1, TOP)):
+    frees(FULL, start, n)
+frees(EMPTY, 0, 1)
+frees(EMPTY, 60, 5)
+frees(TENTH, 10, 1)
+frees(TENTH, 10, 2)
+sets(EMPTY, 0, 64, True)
+sets(TENTH, 8, 4, True)
+sets(TENTH, 8, 4, False)
+sets(FULL, 62, 2, False)
+sets(FULL, 62, 3, False)
+sets(FULL, 65, 0, False)
+for name, start in ((EMPTY, 0), (EMPTY, 63), (EMPTY, 64), (FULL, 0), (FULL, TOP), (LOW, 5)):
+    line(f"{name}: next free from {start}", lambda: next_free(MAPS[name], start))
+for name, slot in ((FULL, 63), (FULL, 64), (EMPTY, 0), (LOW, 62), (LOW, 63)):
+    line(f"{name}: is used {slot}", lambda: get(MAPS[name], slot))
+for name in (EMPTY, FULL, LOW):
+    line(f"{name}: empty", lambda: MAPS[name] == set())
+    line(f"{name}: used", lambda: len(MAPS[name]))
+    line(f"{name}: capacity", lambda: len(SLOTS))

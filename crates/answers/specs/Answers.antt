@@ -10,8 +10,17 @@ use Rattle.answers.specs.declared.Number.{Number}
 use Rattle.answers.specs.declared.Number.the-variants.{Is as Number·Is, Refused as Number·Refused}
 use Rattle.answers.specs.declared.NarrowNumber.{NarrowNumber}
 use Rattle.answers.specs.declared.NarrowNumber.the-variants.{Is as NarrowNumber·Is, Refused as NarrowNumber·Refused}
+use Rattle.answers.specs.declared.Answer.{Answer}
+use Rattle.answers.specs.declared.Answer.the-variants.{At as Answer·At, Done as Answer·Done, Refused as Answer·Refused}
+use Rattle.answers.specs.declared.NextFree.{NextFree}
+use Rattle.answers.specs.declared.NextFree.the-variants.{At as NextFree·At, Refused as NextFree·Refused}
 use Rattle.answers.specs.declared.Truth.{Truth}
 use Rattle.answers.specs.declared.Truth.the-variants.{Is as Truth·Is, Refused as Truth·Refused}
+
+-- what an accepted change of a map says: where the run that was taken starts, or only that it is done
+pub data Reply : Type 0 where
+  at : ℕ → Reply
+  ok : Reply
 
 abbrev pub numberSays : Number → Said ℕ
 numberSays (Number·Is n) = value n
@@ -24,6 +33,15 @@ narrowNumberSays (NarrowNumber·Refused r) = refused (numberOf r)
 abbrev pub truthSays : Truth → Said Bool
 truthSays (Truth·Is b) = value b
 truthSays (Truth·Refused r) = refused (numberOf r)
+
+abbrev pub answerSays : Answer → Said Reply
+answerSays (Answer·At n) = value (at n)
+answerSays Answer·Done = value ok
+answerSays (Answer·Refused r) = refused (numberOf r)
+
+abbrev pub nextFreeSays : NextFree → Said ℕ
+nextFreeSays (NextFree·At n) = value n
+nextFreeSays (NextFree·Refused r) = refused (numberOf r)
 
 -- ---- two answers that say the same are the same
 
@@ -44,6 +62,20 @@ truth-back : (r : Truth) → saying Truth·Is Truth·Refused (truthSays r) ≡ r
 truth-back (Truth·Is b) = refl
 truth-back (Truth·Refused r) = ap Truth·Refused (named-number r)
 
+replying : Reply → Answer
+replying (at n) = Answer·At n
+replying ok = Answer·Done
+
+answer-back : (r : Answer) → saying replying Answer·Refused (answerSays r) ≡ r
+unfolding replying
+answer-back (Answer·At n) = refl
+answer-back Answer·Done = refl
+answer-back (Answer·Refused r) = ap Answer·Refused (named-number r)
+
+next-free-back : (r : NextFree) → saying NextFree·At NextFree·Refused (nextFreeSays r) ≡ r
+next-free-back (NextFree·At n) = refl
+next-free-back (NextFree·Refused r) = ap NextFree·Refused (named-number r)
+
 pub number-says-injective : (r s : Number) → numberSays r ≡ numberSays s → r ≡ s
 number-says-injective = undone-injective numberSays (saying Number·Is Number·Refused) number-back
 
@@ -52,3 +84,9 @@ narrow-number-says-injective = undone-injective narrowNumberSays (saying NarrowN
 
 pub truth-says-injective : (r s : Truth) → truthSays r ≡ truthSays s → r ≡ s
 truth-says-injective = undone-injective truthSays (saying Truth·Is Truth·Refused) truth-back
+
+pub answer-says-injective : (r s : Answer) → answerSays r ≡ answerSays s → r ≡ s
+answer-says-injective = undone-injective answerSays (saying replying Answer·Refused) answer-back
+
+pub next-free-says-injective : (r s : NextFree) → nextFreeSays r ≡ nextFreeSays s → r ≡ s
+next-free-says-injective = undone-injective nextFreeSays (saying NextFree·At NextFree·Refused) next-free-back

@@ -6,7 +6,7 @@ use mathlib.Core.Bool.{Bool, true, false, not, _&&_, _||_}
 use mathlib.Core.List.{List, [], _∷_}
 use Prim.Native.Nat.{ℕ, _<_, _≤_}
 use native.Mathlib.Nat.{le-of-eq, le-of-lt, lt-trans, not-le-of-lt}
-use lib.Dec.{T, leb, ltb, leb→le, le→leb, ltb→lt, lt→ltb}
+use lib.Dec.{T, leb, ltb, eqb, leb→le, le→leb, ltb→lt, lt→ltb, eqb→eq, eqb-refl}
 use Rattle.answers.specs.Said.{Said, value, refused, Check, _when_, judged, value≢refused, value-injective, refused-injective}
 
 infix 10 _if_
@@ -100,6 +100,9 @@ finds-lt m n = (ltb→lt m n, lt→ltb m n)
 
 pub finds-le : (m n : ℕ) → T (leb m n) ↔ (m ≤ n)
 finds-le m n = (leb→le m n, le→leb m n)
+
+pub finds-eq : (m n : ℕ) → T (eqb m n) ↔ (m ≡ n)
+finds-eq m n = (eqb→eq m n, λ e. rw e (eqb-refl n))
 
 pub finds-both : (a b : Bool) {P Q : Type 0} → T a ↔ P → T b ↔ Q → T (a && b) ↔ (P × Q)
 finds-both true b p q = (λ t. (p .0 tt, q .0 t), λ h. q .1 (h .1))

@@ -2,7 +2,7 @@
 -- its refusals given; and what it leaves of a thing that it may change. Rests on nothing of ours.
 use mathlib.Core.Path.{_≡_, refl, sym, ap, subst}
 use mathlib.Core.Bool.{Bool, true, false}
-use mathlib.Core.List.{List, [], _∷_}
+use mathlib.Core.List.{List, [], _∷_, _++_}
 use Prim.Native.Nat.{ℕ}
 
 infix 10 _when_
@@ -47,6 +47,30 @@ refused-injective e = cc
 pub value-injective : {A : Type 0} {a b : A} → value a ≡ value b → a ≡ b
 value-injective e = cc
 
+-- ---- a single check
+
+pub judged-found : {A : Type 0} (k : ℕ) (b : Bool) (a : A) → b ≡ true → judged ((k when b) ∷ []) a ≡ refused k
+unfolding judged
+judged-found k b a e = rw e
+
+pub judged-passed : {A : Type 0} (k : ℕ) (b : Bool) (a : A) → b ≡ false → judged ((k when b) ∷ []) a ≡ value a
+unfolding judged
+judged-passed k b a e = rw e
+
+-- ---- checks in two parts: the second part counts where the first finds nothing
+
+pub judged-first : {A B : Type 0} (cs ds : List Check) (a : A) (b : B) (k : ℕ) → judged cs a ≡ refused k → judged (cs ++ ds) b ≡ refused k
+unfolding judged
+judged-first [] ds a b k e = absurd (value≢refused a k e)
+judged-first ((j when true) ∷ cs) ds a b k e = ap refused (refused-injective e)
+judged-first ((j when false) ∷ cs) ds a b k e = judged-first cs ds a b k e
+
+pub judged-then : {A B : Type 0} (cs ds : List Check) (a x : A) (b : B) → judged cs a ≡ value x → judged (cs ++ ds) b ≡ judged ds b
+unfolding judged
+judged-then [] ds a x b e = refl
+judged-then ((j when true) ∷ cs) ds a x b e = absurd (value≢refused x j (sym e))
+judged-then ((j when false) ∷ cs) ds a x b e = judged-then cs ds a x b e
+
 -- ---- the checks do not look at the value
 
 pub judged-onValue : {A B : Type 0} (f : A → B) (cs : List Check) (a : A) → onValue f (judged cs a) ≡ judged cs (f a)
@@ -68,6 +92,12 @@ module _ {A M : Type 0} (after : A → M) (before : M) where
   unfolding leaving
   leaving-refused (value a) k e = absurd (value≢refused a k e)
   leaving-refused (refused j) k e = refl
+
+  -- what holds of the thing before and after holds of what is left
+  pub leaving-keeps : (P : M → Type 0) → P before → ((a : A) → P (after a)) → (said : Said A) → P (leaving said after before .1)
+  unfolding leaving
+  leaving-keeps P before-holds after-holds (value a) = after-holds a
+  leaving-keeps P before-holds after-holds (refused k) = before-holds
 
   pub leaving-value : (said : Said A) (a : A) → leaving said after before .0 ≡ value a → leaving said after before .1 ≡ after a
   unfolding leaving

@@ -69,3 +69,17 @@ pub enum Truth {
     Is(bool),
     Refused(Refusal),
 }
+
+// What a change of a map comes to: the start of the run that was taken, or that it is done, or the
+// refusal.
+pub enum Answer {
+    At(usize),
+    Done,
+    Refused(Refusal),
+}
+
+// The next free slot, or the refusal.
+pub enum NextFree {
+    At(usize),
+    Refused(Refusal),
+}

@@ -79,15 +79,19 @@ number-digit n zero h = sym (lt-one h)
 number-digit n (suc w) h =
     ap₂ (λ (q d : ℕ). q * 2 + d) (number-digit (n / 2) w (half-lt n w h)) (bit-isOne (n % 2) (mod-lt n two-pos)) ∙ div-add-mod' n 2
 
-number-agree : (f g : ℕ → Bool) (w : ℕ) → ((i : ℕ) → i < w → f i ≡ g i) → number f w ≡ number g w
+pub number-agree : (f g : ℕ → Bool) (w : ℕ) → ((i : ℕ) → i < w → f i ≡ g i) → number f w ≡ number g w
 unfolding number
 number-agree f g zero h = refl
 number-agree f g (suc w) h =
     ap₂ (λ (q : ℕ) (b : Bool). q * 2 + bit b) (number-agree (λ i. f (suc i)) (λ i. g (suc i)) w (λ i l. h (suc i) (omega arith))) (h 0 (omega arith))
 
+-- a number below 2 ^ w is the one made of its digits
+pub number-is : (w n : ℕ) (f : ℕ → Bool) → n < 2 ^ w → ((i : ℕ) → i < w → digit n i ≡ f i) → n ≡ number f w
+number-is w n f h agree = sym (number-digit n w h) ∙ number-agree (digit n) f w agree
+
 -- two numbers below 2 ^ w with equal digits are equal
 pub equal-digits : (w a b : ℕ) → a < 2 ^ w → b < 2 ^ w → ((i : ℕ) → i < w → digit a i ≡ digit b i) → a ≡ b
-equal-digits w a b ha hb h = sym (number-digit a w ha) ∙ number-agree (digit a) (digit b) w h ∙ number-digit b w hb
+equal-digits w a b ha hb h = number-is w a (digit b) ha h ∙ number-digit b w hb
 
 -- ---- and, or: digit by digit
 

@@ -1,11 +1,13 @@
--- Two questions about the n numbers from s on, for any test: which is the least that passes, and how many pass. Rests on nothing of ours.
+-- Three questions about the n numbers from s on, for any test: which is the least that passes, whether all pass, and how many do. Rests on
+-- nothing of ours.
 use mathlib.Core.Path.{_≡_, refl, sym, ap, ap₂, _∙_}
-use mathlib.Core.Logic.{⊎-elim}
-use mathlib.Core.Bool.{Bool, true, false, _&&_, true≢false}
-use Prim.Native.Nat.{ℕ, zero, suc, _+_, _≤_, _<_}
+use mathlib.Core.Logic.{_↔_, ⊎-elim}
+use mathlib.Core.Bool.{Bool, true, false, not, _&&_, _||_, true≢false, false≢true}
+use Prim.Native.Nat.{ℕ, zero, suc, _+_, _≤_, _<_, zero-le}
 use native.Mathlib.Nat.{le-refl, le-trans, le-suc, le-antisymm, lt-trans, lt-of-not-le, le-of-suc-le-suc, eq-or-lt-of-le}
 use native.Mathlib.Omega.{arith}
-use lib.Dec.{T, leb, ltb}
+use lib.Dec.{T, leb, ltb, not-T}
+use borrow.Author.Tests.{leb-true, ltb-true, le-leb, lt-ltb, le-ltb}
 
 -- 1 for a test that passes, 0 for one that fails
 abbrev pub bit : Bool → ℕ
@@ -16,6 +18,11 @@ bit false = 0
 unfoldable pub least : (ℕ → Bool) → ℕ → ℕ → ℕ
 least test s zero = s
 least test s (suc n) = elim (test s) [ true ↦ s | false ↦ least test (suc s) n ]
+
+-- whether each of the n numbers from s on passes
+unfoldable pub every : (ℕ → Bool) → ℕ → ℕ → Bool
+every test s zero = true
+every test s (suc n) = elim (test s) [ true ↦ every test (suc s) n | false ↦ false ]
 
 -- how many of the n numbers from s on pass
 unfoldable pub count : (ℕ → Bool) → ℕ → ℕ → ℕ
@@ -42,6 +49,22 @@ same-test false false f g = refl
 -- an order from the failure of its converse
 pub le-of-not-lt : {m n : ℕ} → (n < m → ⊥) → m ≤ n
 le-of-not-lt h = le-of-suc-le-suc (lt-of-not-le h)
+
+-- ---- within
+
+pub within-named : (s n i : ℕ) → (s ≤ i) × (i < s + n) → within s n i ≡ true
+unfolding within
+within-named s n i h = rw (le-leb s i (h .0), lt-ltb i (s + n) (h .1))
+
+pub within-found : (s n i : ℕ) → within s n i ≡ true → (s ≤ i) × (i < s + n)
+unfolding within
+within-found s n i e =
+    either (leb s i) (λ l. (leb-true s i l, ltb-true i (s + n) (rw (l, within) at e))) (λ l. absurd (false≢true (rw (l, within) at e)))
+
+pub within-other : (s n i : ℕ) → ((s ≤ i) × (i < s + n) → ⊥) → within s n i ≡ false
+unfolding within
+within-other s n i h =
+    either (leb s i) (λ e. rw e (le-ltb i (s + n) (le-of-not-lt (λ lt. h (leb-true s i e, lt))))) (λ e. rw e)
 
 -- ---- the least that passes
 
@@ -93,6 +116,66 @@ module _ (test : ℕ → Bool) where
   pub least-none : (s n : ℕ) → ((i : ℕ) → s ≤ i → i < s + n → test i ≡ false) → least test s n ≡ s + n
   least-none s n none = le-antisymm (least-to s n)
       (le-of-not-lt (λ lt. true≢false (sym (least-passes s n lt) ∙ none (least test s n) (least-from s n) lt)))
+
+-- ---- all pass, or one fails
+
+module _ (test : ℕ → Bool) where
+  every-hit : (s n : ℕ) → test s ≡ true → every test s (suc n) ≡ every test (suc s) n
+  unfolding every
+  every-hit s n e = rw (e, every)
+
+  every-miss : (s n : ℕ) → test s ≡ false → every test s (suc n) ≡ false
+  unfolding every
+  every-miss s n e = rw (e, every)
+
+  pub every-passes : (s n : ℕ) → T (every test s n) → (i : ℕ) → s ≤ i → i < s + n → test i ≡ true
+  unfolding every
+  every-passes s zero t i l h = absurd (omega arith)
+  every-passes s (suc n) t i l h =
+      either (test s)
+      (λ e. ⊎-elim (λ q. rw (← q) e) (λ lt. every-passes (suc s) n (rw (every-hit s n e) at t) i lt (omega arith)) (eq-or-lt-of-le l))
+      (λ e. absurd (rw (every-miss s n e) at t))
+
+  -- where not all pass, here is one that fails
+  pub every-fails : (s n : ℕ) → T (not (every test s n)) → (i : ℕ) × (s ≤ i) × (i < s + n) × (test i ≡ false)
+  unfolding every
+  every-fails s zero t = absurd t
+  every-fails s (suc n) t =
+      either (test s)
+      (λ e.
+      let later = every-fails (suc s) n (rw (every-hit s n e) at t) in
+      (later .0, le-trans (le-suc s) (later .1), omega (arith, later .2), later .3))
+      (λ e. (s, le-refl s, omega arith, e))
+
+  pub finds-every : (s n : ℕ) → T (every test s n) ↔ ((i : ℕ) → s ≤ i → i < s + n → test i ≡ true)
+  finds-every s n = (
+    every-passes s n,
+    λ all. either (every test s n) (λ e. rw e tt)
+        (λ e. let bad = every-fails s n (rw e tt) in absurd (true≢false (sym (all (bad .0) (bad .1) (bad .2)) ∙ bad .3))),
+  )
+
+  pub finds-failing : (s n : ℕ) → T (not (every test s n)) ↔ ((i : ℕ) × (s ≤ i) × (i < s + n) × (test i ≡ false))
+  finds-failing s n = (
+    every-fails s n,
+    λ bad. not-T (every test s n) (λ t. true≢false (sym (every-passes s n t (bad .0) (bad .1) (bad .2)) ∙ bad .3)),
+  )
+
+-- tests that agree on the range pass together
+pub every-agree : (test other : ℕ → Bool) (s n : ℕ) → ((i : ℕ) → s ≤ i → i < s + n → test i ≡ other i) → every test s n ≡ every other s n
+every-agree test other s n agree = same-test _ _
+    (λ t. finds-every other s n .1 (λ i l h. sym (agree i l h) ∙ finds-every test s n .0 t i l h))
+    (λ t. finds-every test s n .1 (λ i l h. agree i l h ∙ finds-every other s n .0 t i l h))
+
+-- the n numbers from s on all pass exactly when each number below w passes or is none of them
+pub every-within : (test : ℕ → Bool) (w s n : ℕ) → s + n ≤ w → every (λ i. not (within s n i) || test i) 0 w ≡ every test s n
+every-within test w s n ends = same-test _ _
+    (λ t. finds-every test s n .1 (λ i l h.
+    let below : i < 0 + w = omega arith in rw (within-named s n i (l, h)) at (whole .0 t i zero-le below)))
+    (λ t. whole .1 (λ i _ _.
+    either (within s n i) (λ e. let h = within-found s n i e in rw e (finds-every test s n .0 t i (h .0) (h .1))) (λ e. rw e)))
+  where
+    whole : T (every (λ i. not (within s n i) || test i) 0 w) ↔ ((i : ℕ) → 0 ≤ i → i < 0 + w → not (within s n i) || test i ≡ true)
+    whole = finds-every (λ i. not (within s n i) || test i) 0 w
 
 -- ---- the numbers from suc s on are those from s on, each one more
 

@@ -1,6 +1,7 @@
 // The edges of each public function: the last argument that is accepted, the first that is not, and
 // those where a wrap or a shift by 64 would show.
 use crate::show;
+use word::Word;
 
 pub fn masks() {
     show::low_mask(0);
@@ -60,4 +61,82 @@ pub fn clearing() {
     show::clear(5, 2);
     show::clear(0, 9);
     show::clear(12, 9);
+}
+
+// ---- the word map
+
+fn used_from(start: usize, n: usize) -> Word {
+    Word::new_empty().set(start, n, true).map
+}
+
+pub fn word_takes() {
+    let empty = Word::new_empty();
+    show::take(b"empty word", empty, 64, 5);
+    show::take(b"empty word", empty, 0, 6);
+    show::take(b"empty word", empty, 65, 6);
+    show::take(b"empty word", empty, 65, 5);
+    show::take(b"empty word", empty, 18446744073709551615, 0);
+    show::take(b"empty word", empty, 1, 18446744073709551615);
+    show::take(b"full word", Word::new_full(), 1, 0);
+    let first = used_from(0, 1);
+    show::take(b"word with slot 0", first, 63, 0);
+    show::take(b"word with slot 0", first, 64, 0);
+    show::take(b"word with slot 0", first, 1, 5);
+    show::take(b"word with slot 0", first, 32, 5);
+    show::take(b"word with slot 0", first, 33, 5);
+    let third = used_from(2, 1);
+    show::take(b"word with slot 2", third, 2, 0);
+    show::take(b"word with slot 2", third, 3, 0);
+    show::take(b"word with slot 2", third, 4, 1);
+    show::take(b"word with slot 2", third, 4, 3);
+    show::take(b"word with slots 0 to 62", used_from(0, 63), 1, 0);
+    show::take(b"word with slots 0 to 62", used_from(0, 63), 1, 1);
+}
+
+pub fn word_changes() {
+    let empty = Word::new_empty();
+    let full = Word::new_full();
+    let tenth = used_from(10, 1);
+    show::claim(b"empty word", empty, 0, 64);
+    show::claim(b"empty word", empty, 63, 1);
+    show::claim(b"empty word", empty, 63, 2);
+    show::claim(b"empty word", empty, 64, 0);
+    show::claim(b"empty word", empty, 64, 1);
+    show::claim(b"empty word", empty, 18446744073709551615, 2);
+    show::claim(b"word with slot 10", tenth, 8, 2);
+    show::claim(b"word with slot 10", tenth, 8, 3);
+    show::free(b"full word", full, 0, 64);
+    show::free(b"full word", full, 63, 1);
+    show::free(b"full word", full, 0, 0);
+    show::free(b"full word", full, 1, 18446744073709551615);
+    show::free(b"empty word", empty, 0, 1);
+    show::free(b"empty word", empty, 60, 5);
+    show::free(b"word with slot 10", tenth, 10, 1);
+    show::free(b"word with slot 10", tenth, 10, 2);
+    show::set(b"empty word", empty, 0, 64, true);
+    show::set(b"word with slot 10", tenth, 8, 4, true);
+    show::set(b"word with slot 10", tenth, 8, 4, false);
+    show::set(b"full word", full, 62, 2, false);
+    show::set(b"full word", full, 62, 3, false);
+    show::set(b"full word", full, 65, 0, false);
+}
+
+pub fn word_questions() {
+    let empty = Word::new_empty();
+    let full = Word::new_full();
+    let low = used_from(0, 63);
+    show::next_free(b"empty word", empty, 0);
+    show::next_free(b"empty word", empty, 63);
+    show::next_free(b"empty word", empty, 64);
+    show::next_free(b"full word", full, 0);
+    show::next_free(b"full word", full, 18446744073709551615);
+    show::next_free(b"word with slots 0 to 62", low, 5);
+    show::get(b"full word", full, 63);
+    show::get(b"full word", full, 64);
+    show::get(b"empty word", empty, 0);
+    show::get(b"word with slots 0 to 62", low, 62);
+    show::get(b"word with slots 0 to 62", low, 63);
+    show::counts(b"empty word", empty);
+    show::counts(b"full word", full);
+    show::counts(b"word with slots 0 to 62", low);
 }

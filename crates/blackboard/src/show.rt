@@ -1,10 +1,14 @@
 // A call, its arguments and its answer, on one line.
+use answers::Answer;
 use answers::NarrowNumber;
+use answers::NextFree;
 use answers::Number;
 use answers::Refusal;
 use answers::Truth;
 use libc::STDOUT_FILENO;
 use spans::Clearing;
+use word::Changed;
+use word::Word;
 
 fn text(words: &[u8]) {
     io::write_all(STDOUT_FILENO, words);
@@ -167,4 +171,106 @@ pub fn clear(start: usize, end: usize) {
         Clearing::Cleared => text(b": ok\n"),
         Clearing::Refused(r) => refusal(r),
     }
+}
+
+// ---- the word map: the map by its name, the call, its answer, and the slots that are then used
+
+// `#` for a used slot, a dot for a free one.
+fn slot_drawn(map: Word, slot: usize) {
+    let held = map.get(slot);
+    match held {
+        Truth::Is(used) => {
+            if used {
+                text(b"#");
+            } else {
+                text(b".");
+            }
+        }
+        Truth::Refused(r) => refusal(r),
+    }
+}
+
+// The slots in a row, slot 0 first.
+fn drawn(map: Word) {
+    let mut slot = 0;
+    while slot < 64 {
+        slot_drawn(map, slot);
+        slot += 1;
+    }
+}
+
+// The answer, and the map that is left.
+fn left(changed: Changed) {
+    let answer = changed.answer;
+    match answer {
+        Answer::At(start) => {
+            text(b": at ");
+            number(start as u64);
+        }
+        Answer::Done => text(b": ok"),
+        Answer::Refused(r) => {
+            text(b": refused ");
+            number(r.number() as u64);
+        }
+    }
+    text(b", leaves ");
+    drawn(changed.map);
+    text(b"\n");
+}
+
+pub fn take(name: &[u8], map: Word, n: usize, a: usize) {
+    text(name);
+    asked(b": take ", n as u64, b" at a multiple of 2^", a as u64);
+    left(map.take(n, a));
+}
+
+pub fn claim(name: &[u8], map: Word, start: usize, n: usize) {
+    text(name);
+    asked(b": claim from ", start as u64, b", ", n as u64);
+    left(map.claim(start, n));
+}
+
+pub fn free(name: &[u8], map: Word, start: usize, n: usize) {
+    text(name);
+    asked(b": free from ", start as u64, b", ", n as u64);
+    left(map.free(start, n));
+}
+
+pub fn set(name: &[u8], map: Word, start: usize, n: usize, used: bool) {
+    text(name);
+    if used {
+        asked(b": set used from ", start as u64, b", ", n as u64);
+    } else {
+        asked(b": set free from ", start as u64, b", ", n as u64);
+    }
+    left(map.set(start, n, used));
+}
+
+pub fn next_free(name: &[u8], map: Word, start: usize) {
+    text(name);
+    text(b": next free from ");
+    number(start as u64);
+    match map.next_free(start) {
+        NextFree::At(slot) => value(slot as u64),
+        NextFree::Refused(r) => refusal(r),
+    }
+}
+
+pub fn get(name: &[u8], map: Word, slot: usize) {
+    text(name);
+    text(b": is used ");
+    number(slot as u64);
+    truth_answer(map.get(slot));
+}
+
+pub fn counts(name: &[u8], map: Word) {
+    text(name);
+    text(b": empty");
+    truth_answer(Truth::Is(map.empty()));
+    text(name);
+    text(b": used");
+    value(map.used() as u64);
+    text(name);
+    text(b": capacity");
+    value(map.capacity() as u64);
 }

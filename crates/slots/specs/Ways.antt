@@ -1,0 +1,69 @@
+-- What is said on each way that a program takes through its checks, over the capacity: the word's and the tree's proofs cite these. Rests on `Calls`.
+use mathlib.Core.Path.{_≡_, refl}
+use mathlib.Core.Logic.{inl, inr}
+use mathlib.Core.Bool.{false}
+use Prim.Native.Nat.{ℕ, _-_, _^_, _≤_, _<_}
+use native.Mathlib.Omega.{arith}
+use lib.Dec.{eqb}
+use borrow.Author.Tests.{eq-eqb, ne-eqb, lt-ltb, le-ltb, lt-leb, le-leb}
+use Rattle.answers.specs.Said.{value, refused, judged}
+use Rattle.answers.specs.Faults.{faults-decide, finds-eq}
+use Rattle.answers.specs.Answers.{at}
+use Rattle.slots.specs.Sets.{Slots}
+use Rattle.slots.specs.Lowest.{lowest}
+use Rattle.slots.specs.Calls.{says, rangeChecks, takeCall}
+use Rattle.slots.specs.Promises.{InRange, in-range, setFaults, finds-past}
+
+-- ---- the checks of a range
+
+module _ {A : Type 0} (k s n : ℕ) (x : A) where
+  pub range-empty : n ≡ 0 → judged (rangeChecks k s n) x ≡ refused 2
+  unfolding judged
+  range-empty e = rw (eq-eqb n 0 e)
+
+  pub range-starts-past : 0 < n → 2 ^ k < s → judged (rangeChecks k s n) x ≡ refused 4
+  unfolding judged
+  range-starts-past pos l = rw (ne-eqb n 0 (λ e. omega arith), lt-ltb (2 ^ k) s l)
+
+  pub range-ends-past : 0 < n → s ≤ 2 ^ k → 2 ^ k - s < n → judged (rangeChecks k s n) x ≡ refused 4
+  unfolding judged
+  range-ends-past pos l h = rw (ne-eqb n 0 (λ e. omega arith), le-ltb (2 ^ k) s l, lt-ltb (2 ^ k - s) n h)
+
+  pub range-inside : 0 < n → s ≤ 2 ^ k → n ≤ 2 ^ k - s → judged (rangeChecks k s n) x ≡ value x
+  unfolding judged
+  range-inside pos l h = rw (ne-eqb n 0 (λ e. omega arith), le-ltb (2 ^ k) s l, le-ltb (2 ^ k - s) n h)
+
+  -- and where nothing was refused, the range is one
+  pub range-accepted : (y : A) → judged (rangeChecks k s n) x ≡ value y → InRange k s n
+  range-accepted y said =
+      let none = faults-decide (rangeChecks k s n) (setFaults k s n) x (omega arith) (refl, finds-eq n 0, λ _. (refl, finds-past k s n, λ _. tt)) .accepts y .0 said .0 in
+      in-range k s n (λ z. none 2 (inl (refl, z))) (λ p. none 4 (inr (inl (refl, p))))
+
+-- ---- the checks of take
+
+module _ (k : ℕ) (S : Slots) (n a : ℕ) where
+  pub take-empty : n ≡ 0 → says (takeCall k S n a) ≡ refused 2
+  unfolding says takeCall judged
+  take-empty e = rw (eq-eqb n 0 e)
+
+  module _ (pos : 0 < n) where
+    some : eqb n 0 ≡ false
+    some = ne-eqb n 0 (λ e. omega arith)
+
+    pub take-too-aligned : k ≤ a → says (takeCall k S n a) ≡ refused 3
+    unfolding says takeCall judged
+    take-too-aligned l = rw (some, le-leb k a l)
+
+    module _ (small : a < k) where
+      pub take-too-many : 2 ^ k < n → says (takeCall k S n a) ≡ refused 4
+      unfolding says takeCall judged
+      take-too-many l = rw (some, lt-leb k a small, lt-ltb (2 ^ k) n l)
+
+      module _ (few : n ≤ 2 ^ k) where
+        pub take-no-room : 2 ^ k ≤ lowest k S n a → says (takeCall k S n a) ≡ refused 7
+        unfolding says takeCall judged
+        take-no-room l = rw (some, lt-leb k a small, le-ltb (2 ^ k) n few, le-leb (2 ^ k) (lowest k S n a) l)
+
+        pub take-at : (o : ℕ) → lowest k S n a ≡ o → o < 2 ^ k → says (takeCall k S n a) ≡ value (at o)
+        unfolding says takeCall judged
+        take-at o e l = rw (e, some, lt-leb k a small, le-ltb (2 ^ k) n few, lt-leb (2 ^ k) o l)

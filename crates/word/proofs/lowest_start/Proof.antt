@@ -1,0 +1,125 @@
+-- `word::lowest_start` meets its contract. The loop's invariant: no start below the try fits, and the try is a multiple of 2 ^ a (`Trying`). The
+-- measure is how far the try is from 96, which it never passes. Assumes nothing.
+use mathlib.Core.Path.{_≡_}
+use mathlib.Core.Logic.{⊎-elim}
+use Prim.Native.Nat.{ℕ, _-_}
+use native.Mathlib.Omega.{arith}
+use borrow.Author.Needs.{needs}
+use Rattle.bits.specs.Digits.{digit}
+use Rattle.slots.specs.Sets.{AllFree}
+use Rattle.slots.specs.Search.{searched-past, searched-full, searched-found}
+use Rattle.slots.specs.Promises.{NextFree}
+use Rattle.word.proofs.Tries.{Trying, trying-first, next-found, next-none, says-none, says-found, run-free, run-not-free, try-later, try-on}
+use Rattle.word.proofs.lowest_start.Statement.{statement}
+use Rattle.word.proofs.lowest_start.Tie as tie
+
+abbrev Inv-loop : tie.InvT-loop
+Inv-loop bits n a start₀ start = Trying bits n a start
+
+abbrev μ-loop : tie.MeasureT-loop
+μ-loop bits n a start₀ start = 96 - start
+
+loop-holds : tie.Need-loop-holds Inv-loop μ-loop
+loop-holds c = trying-first (c .args .bits) (c .args .n) (c .args .a) (c .pre .0) (c .pre .2)
+
+add-loop : tie.Need-add-loop Inv-loop μ-loop
+add-loop c = omega (arith, c .loop .inv .near)
+
+next-free-in-requires : tie.Need-next-free-in-requires Inv-loop μ-loop
+next-free-in-requires c κs = search needs
+
+enum-known-next : tie.Need-enum-known-next Inv-loop μ-loop
+enum-known-next c = search needs
+
+enum-told : tie.Need-enum-told Inv-loop μ-loop
+enum-told c = search needs
+
+-- no slot from the try on is free
+returns : tie.Need-returns Inv-loop μ-loop
+returns c =
+    let asking = c .before .before in
+    let at-head = asking .before .before in
+    let start = at-head .loop .start in
+    let entry = at-head .before in
+    let asked = entry .args in
+    says-none (asked .bits) (asked .n) (asked .a) (entry .pre .0) (entry .pre .2)
+    (searched-full 6 (digit (asked .bits)) (asked .n) (asked .a) (entry .pre .0) start (at-head .loop .inv .known)
+    (next-none (asked .bits) start (omega arith) (asking .next-free-in .result) (asking .next-free-in .ensures) _ (c .enum-told .given .1)))
+
+run-mask-requires : tie.Need-run-mask-requires Inv-loop μ-loop
+run-mask-requires c κs = search needs
+
+all-free-requires : tie.Need-all-free-requires Inv-loop μ-loop
+all-free-requires c κs = search needs
+
+-- the run at the try is free
+returns-2 : tie.Need-returns-2 Inv-loop μ-loop
+returns-2 c =
+    let tested = c .before in
+    let masked = tested .before in
+    let asking = masked .before .before .before .before .before in
+    let at-head = asking .before .before in
+    let start = at-head .loop .start in
+    let entry = at-head .before in
+    let asked = entry .args in
+    says-found (asked .bits) (asked .n) (asked .a) (entry .pre .0) (entry .pre .2) start
+    (searched-found 6 (digit (asked .bits)) (asked .n) (asked .a) (entry .pre .0) start (at-head .loop .inv .known) (asking .before .loop-test .taken)
+    (run-free (asked .bits) start (asked .n) _ _ (asking .before .loop-test .taken) (masked .run-mask .ensures) (tested .all-free .ensures) (c .if2 .taken)))
+
+-- ---- where the ways meet: the next free slot, and that the run at the try is not free
+
+abbrev free-at : tie.Joined1 Inv-loop μ-loop → ℕ
+free-at c = c .before .before .next .given .0 .0
+
+next-at : (c : tie.Joined1 Inv-loop μ-loop)
+    → NextFree 6 (digit (c .before .before .before .before .before .before .before .args .bits)) (c .before .before .before .before .before .before .loop .start) (free-at c)
+next-at c =
+    let asking = c .before .before .before .before in
+    let at-head = asking .before .before in
+    next-found (at-head .before .args .bits) (at-head .loop .start) (omega arith) (asking .next-free-in .result) (asking .next-free-in .ensures) (free-at c) (c .before .before .next .given .1)
+
+not-free-at : (c : tie.Joined1 Inv-loop μ-loop) → free-at c ≡ c .before .before .before .before .before .before .loop .start
+    → AllFree (digit (c .before .before .before .before .before .before .before .args .bits)) (c .before .before .before .before .before .before .loop .start) (c .before .before .before .before .before .before .before .args .n) → ⊥
+not-free-at c =
+    let test = c .before .before .before .before .before in
+    let at-head = test .before in
+    ⊎-elim (λ w _. run-not-free (at-head .before .args .bits) (at-head .loop .start) (at-head .before .args .n) _ _ (test .loop-test .taken) (w .1 .ensures) (w .2 .ensures) (w .3 .left))
+    (λ w same. absurd (w .left same)) (c .if1 .came)
+
+next-try-requires : tie.Need-next-try-requires Inv-loop μ-loop
+next-try-requires c κs =
+    let entry = c .before .before .before .before .before .before .before in
+    let next = next-at c in
+    (omega (arith, next .from), omega (arith, next .from, next .inside), entry .pre .2)
+
+loop-again : tie.Need-loop-again Inv-loop μ-loop
+loop-again c =
+    let joined = c .before in
+    let test = joined .before .before .before .before .before in
+    let at-head = test .before in
+    let entry = at-head .before in
+    rw (c .next-try .ensures)
+    (try-on (entry .args .bits) (entry .args .n) (entry .args .a) (entry .pre .0) (entry .pre .2) (at-head .loop .start) (test .loop-test .taken) (free-at joined) (next-at joined) (at-head .loop .inv) (not-free-at joined))
+
+loop-less : tie.Need-loop-less Inv-loop μ-loop
+loop-less c =
+    let joined = c .before in
+    let test = joined .before .before .before .before .before in
+    let at-head = test .before in
+    let entry = at-head .before in
+    let later = try-later (entry .args .bits) (entry .args .n) (entry .args .a) (entry .pre .0) (entry .pre .2) (at-head .loop .start) (test .loop-test .taken) (free-at joined) (next-at joined) in
+    rw (c .next-try .ensures) (omega (arith, later))
+
+-- the tries are past the end
+returns-3 : tie.Need-returns-3 Inv-loop μ-loop
+returns-3 c =
+    let at-head = c .before in
+    let entry = at-head .before in
+    let asked = entry .args in
+    says-none (asked .bits) (asked .n) (asked .a) (entry .pre .0) (entry .pre .2)
+    (searched-past 6 (digit (asked .bits)) (asked .n) (asked .a) (entry .pre .0) (at-head .loop .start) (at-head .loop .inv .known) (c .loop-test .left))
+
+pub lowest-start-spec : {M : Type 1} → statement M
+lowest-start-spec =
+    tie.close
+    (tie.spec Inv-loop μ-loop loop-holds add-loop next-free-in-requires enum-known-next enum-told returns run-mask-requires all-free-requires returns-2 next-try-requires loop-less loop-again returns-3)
