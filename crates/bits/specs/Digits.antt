@@ -3,7 +3,7 @@
 use mathlib.Core.Path.{_≡_, refl, sym, ap, ap₂, _∙_}
 use mathlib.Core.Bool.{Bool, true, false, not, _&&_, _||_, true≢false, false≢true}
 use Prim.Native.Nat.{ℕ, zero, suc, _+_, _-_, _*_, _/_, _%_, _^_, _≤_, _<_, zero-le, min, max}
-use native.Mathlib.Nat.{zero-lt-suc, le-of-suc-le-suc, not-suc-le-zero, mod-lt, mod-one, mod-eq-of-lt, div-one, div-add-mod', div-div-eq-div-mul, mul-one, mul-comm, mul-div-cancel, mul-mod-left, zero-add, suc-add, sub-zero, suc-sub-suc, pow-suc, zero-min, min-zero, suc-min-suc, zero-max, max-zero, suc-max-suc}
+use native.Mathlib.Nat.{zero-lt-suc, le-of-suc-le-suc, not-suc-le-zero, mod-lt, mod-one, mod-eq-of-lt, div-one, div-add-mod', div-div-eq-div-mul, mul-one, mul-comm, mul-div-cancel, mul-mod-left, zero-add, add-zero, suc-add, sub-zero, suc-sub-suc, pow-suc, zero-min, min-zero, suc-min-suc, zero-max, max-zero, suc-max-suc}
 use native.Mathlib.Numerals.{add-one}
 use native.Mathlib.Omega.{arith}
 use lib.Arith.{digits-lt, digits-div, digits-mod, mod-mul, lt-one, dbl-pred}
@@ -39,6 +39,14 @@ bit-isOne (suc (suc d)) h = absurd (omega arith)
 isOne-bit : (b : Bool) → isOne (bit b) ≡ b
 isOne-bit true = refl
 isOne-bit false = refl
+
+and-true : (b : Bool) → b && true ≡ b
+and-true true = refl
+and-true false = refl
+
+and-false : (b : Bool) → b && false ≡ false
+and-false true = refl
+and-false false = refl
 
 bit-lt : (b : Bool) → bit b < 2
 bit-lt true = omega arith
@@ -193,6 +201,21 @@ power-digit zero (suc i) = zero-digit i ∙ sym (eqb·suc-zero i)
 power-digit (suc x) zero = ap (λ (p : ℕ). isOne (p % 2)) (pow-suc 2 x) ∙ ap isOne (mul-mod-left (2 ^ x) 2) ∙ sym (eqb·zero-suc x)
 power-digit (suc x) (suc i) =
     ap (λ (p : ℕ). digit (p / 2) i) (pow-suc 2 x) ∙ ap (λ (n : ℕ). digit n i) (mul-div-cancel (2 ^ x) two-pos) ∙ power-digit x i ∙ sym (eqb·suc-suc i x)
+
+-- the number of one digit
+pub bit-digit : (b : Bool) (i : ℕ) → digit (bit b) i ≡ eqb i 0 && b
+bit-digit true i = power-digit 0 i ∙ sym (and-true (eqb i 0))
+bit-digit false i = zero-digit i ∙ sym (and-false (eqb i 0))
+
+-- a place as the machine reads it
+pub read-digit : (n i : ℕ) → eqb (n / 2 ^ i % 2) 1 ≡ digit n i
+unfolding digit
+read-digit n i = one-digit (n / 2 ^ i % 2) (mod-lt (n / 2 ^ i) two-pos) ∙ down-digit n i 0 ∙ ap (digit n) (add-zero i)
+  where
+    one-digit : (d : ℕ) → d < 2 → eqb d 1 ≡ isOne d
+    one-digit zero h = refl
+    one-digit (suc zero) h = refl
+    one-digit (suc (suc d)) h = absurd (omega arith)
 
 low-step : (k : ℕ) → 2 ^ suc k - 1 ≡ (2 ^ k - 1) * 2 + 1
 low-step k = ap (λ (p : ℕ). p - 1) (pow-suc 2 k) ∙ dbl-pred (pow-pos k)

@@ -4,7 +4,7 @@ use mathlib.Core.Path.{_≡_, refl, sym, ap, ap₂, _∙_}
 use mathlib.Core.Logic.{_↔_, ⊎-elim}
 use mathlib.Core.Bool.{Bool, true, false, not, _&&_, _||_, true≢false, false≢true}
 use Prim.Native.Nat.{ℕ, zero, suc, _+_, _≤_, _<_, zero-le}
-use native.Mathlib.Nat.{le-refl, le-trans, le-suc, le-antisymm, lt-trans, lt-of-not-le, le-of-suc-le-suc, eq-or-lt-of-le}
+use native.Mathlib.Nat.{le-refl, le-trans, le-suc, le-antisymm, lt-trans, lt-of-not-le, le-of-suc-le-suc, eq-or-lt-of-le, zero-add, add-zero, suc-add, add-suc}
 use native.Mathlib.Omega.{arith}
 use lib.Dec.{T, leb, ltb, not-T}
 use borrow.Author.Tests.{leb-true, ltb-true, le-leb, lt-ltb, le-ltb}
@@ -199,3 +199,27 @@ count-agree test other s zero h = refl
 count-agree test other s (suc n) h =
     ap₂ (λ (b : Bool) (c : ℕ). bit b + c) (h s (le-refl s) (omega arith))
     (count-agree test other (suc s) n (λ i l lt. h i (omega arith) (omega arith)))
+
+-- ---- counting in parts
+
+pub count-most : (test : ℕ → Bool) (s n : ℕ) → count test s n ≤ n
+unfolding count
+count-most test s zero = zero-le
+count-most test s (suc n) = omega (arith, bit-most (test s), count-most test (suc s) n)
+  where
+    bit-most : (b : Bool) → bit b ≤ 1
+    bit-most true = omega arith
+    bit-most false = omega arith
+
+-- the numbers from s on are those from 0 on, each s more
+pub count-moved : (test : ℕ → Bool) (s n : ℕ) → count test s n ≡ count (λ i. test (s + i)) 0 n
+count-moved test zero n = count-agree test (λ i. test (0 + i)) 0 n (λ i l lt. ap test (sym (zero-add i)))
+count-moved test (suc s) n =
+    count-shift test s n ∙ count-moved (λ i. test (suc i)) s n
+    ∙ count-agree (λ i. test (suc (s + i))) (λ i. test (suc s + i)) 0 n (λ i l lt. ap test (sym (suc-add s i)))
+
+-- a range in two parts
+pub count-split : (test : ℕ → Bool) (s m n : ℕ) → count test s (m + n) ≡ count test s m + count test (s + m) n
+unfolding count
+count-split test s zero n = rw (zero-add n, add-zero s, zero-add (count test s n))
+count-split test s (suc m) n = rw (suc-add m n, add-suc s m, sym (suc-add s m), count-split test (suc s) m n) (omega arith)

@@ -2,3 +2,4 @@
 // used, paint them, the first free place, the count. No function here refuses; each answers for
 // every input. Rests on `bits`.
 pub mod one_word;
+pub mod sixteen;

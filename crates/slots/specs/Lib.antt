@@ -5,4 +5,5 @@ pub mod Promises
 pub mod Search
 pub mod Ways
 pub mod View
+pub mod Layouts
 pub mod Readings

@@ -3,8 +3,7 @@ use mathlib.Core.Path.{_≡_, refl, sym, ap, _∙_}
 use mathlib.Core.Logic.{_↔_, ⊎-elim}
 use mathlib.Core.Bool.{Bool}
 use mathlib.Core.List.{List, [], _∷_, _++_}
-use Prim.Native.Nat.{ℕ, zero, suc, _/_, _%_, _^_, _<_, zero-le}
-use native.Mathlib.Nat.{add-zero, mod-lt, zero-lt-suc}
+use Prim.Native.Nat.{ℕ, _^_, _<_, zero-le}
 use native.Mathlib.Omega.{arith}
 use lib.Dec.{T, eqb, eqb→eq}
 use lib.Pow.{pow-pos}
@@ -19,7 +18,7 @@ use Rattle.answers.specs.declared.Refusal.{Refusal}
 use Rattle.answers.specs.declared.Answer.{Answer}
 use Rattle.answers.specs.declared.Answer.the-variants.{At, Done, Refused}
 use Rattle.bits.specs.Range.{same-test}
-use Rattle.bits.specs.Digits.{digit, isOne, equal-digits, zero-digit, down-digit}
+use Rattle.bits.specs.Digits.{digit, equal-digits, zero-digit}
 use Rattle.layout.specs.OneWord.{runMask, freeIn, usedIn, paintedIn, free-run, used-run, painted-run}
 use Rattle.slots.specs.Sets.{allFree, allUsed, painted, AllFree, finds-all-free}
 use Rattle.slots.specs.Calls.{Call, says, rangeChecks}
@@ -88,12 +87,3 @@ none-used w word held = same-test _ _
   where
     found : T (allFree (digit word) 0 w) ↔ AllFree (digit word) 0 w
     found = finds-all-free (digit word) 0 w
-
-one-digit : (d : ℕ) → d < 2 → eqb d 1 ≡ isOne d
-one-digit zero h = refl
-one-digit (suc zero) h = refl
-one-digit (suc (suc d)) h = absurd (omega arith)
-
-pub lowest-place : (word i : ℕ) → eqb (word / 2 ^ i % 2) 1 ≡ digit word i
-unfolding digit
-lowest-place word i = one-digit (word / 2 ^ i % 2) (mod-lt (word / 2 ^ i) (zero-lt-suc 1)) ∙ down-digit word i 0 ∙ ap (digit word) (add-zero i)

@@ -1,6 +1,6 @@
 -- `layout::one_word::first_free` meets its contract: the trailing zeros of the complement are the first free place, at 64 places. Assumes nothing.
 use mathlib.Core.Path.{_≡_, _∙_}
-use Prim.Native.Nat.{ℕ, _*_, _%_, _^_, _<_}
+use Prim.Native.Nat.{ℕ, _*_, _%_, _^_, _≤_, _<_}
 use native.Mathlib.Nat.{one-mul, min-eq-left, min-eq-right, sub-eq-zero-of-le, le-of-lt}
 use native.Mathlib.Omega.{arith}
 use lib.Pow.{pow-pos, shl-exact}
@@ -16,7 +16,7 @@ one-at from h = shl-exact 1 from 64 (omega arith) (omega arith) ∙ one-mul (2 ^
 
 returns : tie.Need-returns
 unfolding firstFree least
-returns c = rw (min-eq-right (c .if1 .taken), sub-eq-zero-of-le (c .if1 .taken))
+returns c = let past : 64 ≤ c .before .args .from = omega arith in rw (min-eq-right past, sub-eq-zero-of-le past)
 
 shl-zeros : tie.Need-shl-zeros
 shl-zeros c = search needs

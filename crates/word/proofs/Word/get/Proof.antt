@@ -6,7 +6,7 @@ use borrow.Author.Tests.{le-leb, lt-leb}
 use Rattle.answers.specs.Said.{value, judged}
 use Rattle.slots.specs.Calls.{getCall}
 use Rattle.slots.specs.View.{answered}
-use Rattle.word.proofs.Outcomes.{lowest-place}
+use Rattle.bits.specs.Digits.{read-digit}
 use Rattle.word.proofs.Word.get.Statement.{statement}
 use Rattle.word.proofs.Word.get.Tie as tie
 
@@ -21,7 +21,7 @@ returns-2 : tie.Need-returns-2
 unfolding answered judged getCall
 returns-2 c =
     let asked = c .before .before .args in
-    rw (lt-leb 64 (asked .slot) (omega arith)) (ap value (lowest-place (asked .self .bits) (asked .slot)))
+    rw (lt-leb 64 (asked .slot) (omega arith)) (ap value (read-digit (asked .self .bits) (asked .slot)))
 
 pub get-spec : {M : Type 1} → statement M
 get-spec = tie.close (tie.spec returns shr-t6 returns-2)

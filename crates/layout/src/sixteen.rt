@@ -1,0 +1,87 @@
+// Sixteen words of 64 slots: slot s is place s % 64 of word s / 64.
+use crate::one_word;
+ghost use mathlib.Core.Path.{_≡_};
+ghost use mathlib.Core.Bool.{not};
+ghost use Prim.Native.Nat.{_<_, _*_, _^_};
+ghost use lib.Dec.{eqb};
+ghost use Rattle.bits.specs.Range.{bit};
+ghost use Rattle.layout.specs.Sixteen.{SummarySays, GetSays, CountSays, FirstFreeSays, AllFreeSays};
+
+const SLOTS: usize = 1024;
+
+// The summary that the words have: bit i is 1 exactly if word i is not 0.
+pub fn summary(words: &[u64; 16]) -> u16
+    ensures { λ r. ⌜ SummarySays (now (words .entry)) r ⌝ }
+{
+    let mut summary = 0;
+    let mut i = 0;
+    while i < 16 {
+        summary = summary | used_bit(words[i], i);
+        i += 1;
+    }
+    summary
+}
+
+fn used_bit(word: u64, i: usize) -> u16
+    requires { ⌜ i < 16 ⌝ }
+    ensures { λ r. ⌜ r ≡ bit (not (eqb word 0)) * 2 ^ i ⌝ }
+{
+    ((word != 0) as u16) << i
+}
+
+// Whether the slot is used; past the last, no.
+pub fn get(words: &[u64; 16], slot: usize) -> bool
+    ensures { λ r. ⌜ GetSays (now (words .entry)) slot r ⌝ }
+{
+    if SLOTS <= slot {
+        return false;
+    }
+    (words[slot / 64] >> (slot % 64)) % 2 == 1
+}
+
+// How many slots are used.
+pub fn count(words: &[u64; 16]) -> usize
+    ensures { λ r. ⌜ CountSays (now (words .entry)) r ⌝ }
+{
+    let mut total = 0;
+    let mut i = 0;
+    while i < 16 {
+        total = total + one_word::count(words[i]);
+        i += 1;
+    }
+    total
+}
+
+// The least free slot from `from` on, or 1,024 where there is none.
+pub fn first_free(words: &[u64; 16], from: usize) -> usize
+    ensures { λ r. ⌜ FirstFreeSays (now (words .entry)) from r ⌝ }
+{
+    let mut start = from;
+    while start < SLOTS {
+        let place = one_word::first_free(words[start / 64], start % 64);
+        if place < 64 {
+            return start / 64 * 64 + place;
+        }
+        start = (start / 64 + 1) * 64;
+    }
+    SLOTS
+}
+
+// Whether each of the n slots from `start` on is free, asked slot by slot; past the last, each is.
+pub fn all_free(words: &[u64; 16], start: usize, n: usize) -> bool
+    ensures { λ r. ⌜ AllFreeSays (now (words .entry)) start n r ⌝ }
+{
+    let mut slot = start;
+    let mut left = n;
+    while 0 < left {
+        if SLOTS <= slot {
+            return true;
+        }
+        if get(words, slot) {
+            return false;
+        }
+        slot += 1;
+        left -= 1;
+    }
+    true
+}
