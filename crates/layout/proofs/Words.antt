@@ -1,21 +1,23 @@
 -- What the loops over sixteen words come to, over any number of words and of places: the reasons behind `sixteen`. Assumes nothing.
 use mathlib.Core.Path.{_≡_, refl, sym, ap, ap₂, _∙_}
+use mathlib.Core.Logic.{_↔_}
 use mathlib.Core.Bool.{Bool, true, false, not, _&&_, _||_}
 use mathlib.Core.List.{List}
 use Prim.Native.Nat.{ℕ, zero, suc, _+_, _-_, _*_, _/_, _%_, _^_, _≤_, _<_, zero-le, min}
-use native.Mathlib.Nat.{mul-add-div-right, mul-add-mod-self-right, mod-eq-of-lt, div-eq-of-lt, add-zero, zero-add, lt-of-not-le, min-eq-left, le-refl, le-trans}
+use native.Mathlib.Nat.{mod-eq-of-lt, zero-add, lt-of-not-le, min-eq-left, le-refl, le-trans}
 use native.Mathlib.Omega.{arith}
 use mir.Val.{boolByte}
-use lib.ListN.{getD}
+use lib.ListN.{getD, set}
 use lib.Bits.{bitOr, or-lt}
-use lib.Dec.{leb, ltb, eqb}
+use lib.Dec.{T, leb, ltb, eqb, leb→le, le→leb}
 use lib.Pow.{pow-pos, pow-lt}
-use borrow.Author.Tests.{lt-ltb, le-ltb, lt-leb, le-leb, eq-eqb, ne-eqb, ltb-true, ltb-false, eqb-true, eqb-false, not-true, not-false}
-use Rattle.bits.specs.Range.{bit, either, same-test, every, least, least-is, least-none, least-from, least-passes, least-first, count, count-agree, count-most, count-split, count-moved}
+use borrow.Author.Tests.{lt-ltb, le-ltb, lt-leb, le-leb, eq-eqb, ne-eqb, ltb-true, ltb-false, eqb-true, eqb-false, leb-true, not-true, not-false}
+use Rattle.bits.specs.Range.{bit, either, same-test, within, finds-every, every, least, least-is, least-none, least-from, least-passes, least-first, count, count-agree, count-most, count-split, count-moved}
 use Rattle.bits.specs.Digits.{digit, number, digit-number, number-is, number-agree, number-lt, zero-digit, or-digit, up-digit, bit-digit}
-use Rattle.slots.specs.Sets.{Slots, allFree, finds-all-free}
-use Rattle.layout.specs.OneWord.{firstFree}
-use Rattle.layout.specs.Sixteen.{slotIn, firstFreeIn}
+use Rattle.slots.specs.Sets.{Slots, allFree, allUsed, finds-all-free, finds-all-used, finds-some-free}
+use Rattle.layout.specs.OneWord.{runMask, usedIn, paintedIn, firstFree}
+use Rattle.layout.specs.Painting.{slotIn, slot-in-word, endIn, partMask, paintedFirst, paint-on, paint-ahead}
+use Rattle.layout.specs.Sixteen.{firstFreeIn}
 
 -- ---- a number whose places are set one after the other
 
@@ -28,6 +30,14 @@ no-places f w = number-is w 0 _ (pow-pos w) (λ p l. zero-digit p ∙ ap (λ (b 
 
 pub all-places : (f : ℕ → Bool) (w : ℕ) → firstPlaces f w w ≡ number f w
 all-places f w = number-agree _ f w (λ p l. ap (λ (b : Bool). b && f p) (lt-ltb p w l))
+
+and-false : (b : Bool) → b && false ≡ false
+and-false true = refl
+and-false false = refl
+
+or-true : (b : Bool) → b || true ≡ true
+or-true true = refl
+or-true false = refl
 
 or-false : (b : Bool) → b || false ≡ b
 or-false true = refl
@@ -60,14 +70,6 @@ next-place f w i l = number-is w _ _ (or-lt w _ _ (number-lt _ w) (placed (f i) 
     ∙ joined f i p)
 
 -- ---- slots counted word by word
-
-pub slot-in-word : (words : List ℕ) (i s : ℕ) → i < 16 → s < 64 → slotIn words (i * 64 + s) ≡ digit (getD words i 0) s
-unfolding slotIn
-slot-in-word words i s h l =
-    rw (lt-ltb (i * 64 + s) 1024 (omega arith))
-    (ap₂ (λ (p q : ℕ). digit (getD words p 0) q)
-    (mul-add-div-right (omega arith) i s ∙ ap (λ (r : ℕ). i + r) (div-eq-of-lt l) ∙ add-zero i)
-    (mul-add-mod-self-right i 64 s ∙ mod-eq-of-lt l))
 
 pub word-most : (word r : ℕ) → r ≡ count (digit word) 0 64 → r ≤ 64
 word-most word r e = rw e (count-most (digit word) 0 64)
@@ -150,7 +152,7 @@ module _ (words : List ℕ) (from start : ℕ) (passed : Passed words from start
 
 -- ---- a run asked slot by slot
 
-past-free : (words : List ℕ) (s : ℕ) → 1024 ≤ s → slotIn words s ≡ false
+pub past-free : (words : List ℕ) (s : ℕ) → 1024 ≤ s → slotIn words s ≡ false
 unfolding slotIn
 past-free words s l = rw (le-ltb s 1024 l)
 
@@ -179,3 +181,99 @@ run-goes-on S s (suc n) pos free =
 pub run-past : (words : List ℕ) (s n : ℕ) → 1024 ≤ s → true ≡ allFree (slotIn words) s n
 run-past words s n l =
     same-test true (allFree (slotIn words) s n) (λ _. finds-all-free (slotIn words) s n .1 (λ i h. past-free words i (omega arith))) (λ _. tt)
+
+-- ---- the part of a run that lies in one word
+
+agree-leb : (a b c d : ℕ) → (a ≤ b → c ≤ d) → (c ≤ d → a ≤ b) → leb a b ≡ leb c d
+agree-leb a b c d f g = same-test (leb a b) (leb c d) (λ t. le→leb c d (f (leb→le a b t))) (λ t. le→leb a b (g (leb→le c d t)))
+
+module _ (s e i : ℕ) where
+  part-of : (lo n : ℕ) → ((p : ℕ) → leb lo p ≡ leb s (i * 64 + p)) → ((p : ℕ) → ltb p (lo + n) ≡ ltb (i * 64 + p) e) → runMask lo n ≡ partMask s e i
+  unfolding runMask partMask within
+  part-of lo n below above = number-agree _ _ 64 (λ p l. ap₂ (λ (b c : Bool). b && c) (below p) (above p))
+
+  pub part-to-end : s ≤ i * 64 → i * 64 < e → runMask 0 (e - i * 64) ≡ partMask s e i
+  part-to-end l m =
+      part-of 0 (e - i * 64) (λ p. agree-leb 0 p s (i * 64 + p) (λ h. omega arith) (λ h. omega arith))
+      (λ p. agree-leb (suc p) (0 + (e - i * 64)) (suc (i * 64 + p)) e (λ h. omega arith) (λ h. omega arith))
+
+  pub part-inside : i * 64 ≤ s → s ≤ e → runMask (s - i * 64) (e - s) ≡ partMask s e i
+  part-inside l m =
+      part-of (s - i * 64) (e - s) (λ p. agree-leb (s - i * 64) p s (i * 64 + p) (λ h. omega arith) (λ h. omega arith))
+      (λ p. agree-leb (suc p) (s - i * 64 + (e - s)) (suc (i * 64 + p)) e (λ h. omega arith) (λ h. omega arith))
+
+  pub part-none : e ≤ s → 0 ≡ partMask s e i
+  unfolding partMask
+  part-none l = number-is 64 0 _ (pow-pos 64) (λ p _. zero-digit p ∙ sym (none p))
+    where
+      none : (p : ℕ) → leb s (i * 64 + p) && ltb (i * 64 + p) e ≡ false
+      none p = either (ltb (i * 64 + p) e) (λ t. let b = ltb-true (i * 64 + p) e t in rw (lt-leb s (i * 64 + p) (omega arith)))
+          (λ t. rw t (and-false (leb s (i * 64 + p))))
+
+-- ---- painting word by word
+
+pub end-most : (s n r : ℕ) → r ≡ endIn s n → r ≤ 1024
+unfolding endIn
+end-most s n r e = rw e (omega arith)
+
+module _ (words : List ℕ) (s e : ℕ) (v : Bool) where
+  -- one word of the loop that paints: what it read, masked and wrote
+  pub paint-step : (now : List ℕ) (i end mask left : ℕ) → s / 64 ≤ i → i * 64 < end → now ≡ paintedFirst words s e v i → end ≡ e → mask ≡ partMask s end i
+      → left ≡ paintedIn (getD now i 0) mask v → set now i left ≡ paintedFirst words s e v (i + 1)
+  paint-step now i end mask left l h so-far ends masked wrote =
+      ap₂ (λ (ws : List ℕ) (x : ℕ). set ws i x) so-far
+      (wrote ∙ ap₂ (λ (x m : ℕ). paintedIn x m v) (ap (λ (ws : List ℕ). getD ws i 0) so-far ∙ paint-ahead words s e v i i (le-refl i)) (masked ∙ ap (λ (n : ℕ). partMask s n i) ends))
+      ∙ paint-on words s e v i l (rw (sym ends) h)
+
+-- ---- a run asked word by word
+
+pub run-free-at : (S : Slots) (s n p : ℕ) → s ≤ p → p < s + n → S p ≡ false → false ≡ allUsed S s n
+run-free-at S s n p l b free = sym (not-true (allUsed S s n) (same-test (not (allUsed S s n)) true (λ _. tt) (λ _. finds-some-free S s n .1 (p, (l, b), free))))
+
+pub run-all-used : (S : Slots) (s n : ℕ) → ((p : ℕ) → s ≤ p → p < s + n → S p ≡ true) → true ≡ allUsed S s n
+run-all-used S s n used = same-test true (allUsed S s n) (λ _. finds-all-used S s n .1 (λ p h. used p (h .0) (h .1))) (λ _. tt)
+
+module _ (words : List ℕ) (s e i : ℕ) (here : i < 16) where
+  in-mask : (p : ℕ) → p < 64 → digit (partMask s e i) p ≡ leb s (i * 64 + p) && ltb (i * 64 + p) e
+  unfolding partMask
+  in-mask p l = digit-number _ 64 p l
+
+  asked-of-word : T (usedIn (getD words i 0) (partMask s e i)) ↔ ((p : ℕ) → p < 64 → s ≤ i * 64 + p → i * 64 + p < e → digit (getD words i 0) p ≡ true)
+  unfolding usedIn
+  asked-of-word =
+      let found = finds-every (λ p. not (digit (partMask s e i) p) || digit (getD words i 0) p) 0 64 in (
+        λ t p l f b. rw (in-mask p l, le-leb s (i * 64 + p) f, lt-ltb (i * 64 + p) e b) at (found .0 t p zero-le (omega arith)),
+        λ all. found .1 (λ p _ l. let m : p < 64 = omega arith in
+            either (leb s (i * 64 + p))
+            (λ f. either (ltb (i * 64 + p) e)
+            (λ b. rw (all p m (leb-true s (i * 64 + p) f) (ltb-true (i * 64 + p) e b)) (or-true (not (digit (partMask s e i) p))))
+            (λ b. rw (in-mask p m, b, and-false (leb s (i * 64 + p)))))
+            (λ f. rw (in-mask p m, f))),
+      )
+
+  word-used : (flag : Bool) → flag ≡ usedIn (getD words i 0) (partMask s e i) → flag ≡ true → (p : ℕ) → s ≤ p → p < e → i * 64 ≤ p → p < (i + 1) * 64 → slotIn words p ≡ true
+  word-used flag told yes-flag p f b l h =
+      seen words i p here l h ∙ asked-of-word .0 (rw (sym told ∙ yes-flag) tt) (p - i * 64) (omega arith) (omega arith) (omega arith)
+
+  word-not-used : (flag : Bool) → flag ≡ usedIn (getD words i 0) (partMask s e i) → flag ≡ false → ((p : ℕ) → s ≤ p → p < e → slotIn words p ≡ true) → ⊥
+  word-not-used flag told no-flag used =
+      rw (sym told ∙ no-flag) at (asked-of-word .1 (λ p l f b. sym (slot-in-word words i p here l) ∙ used (i * 64 + p) f b))
+
+-- each slot of the run before word i is used
+abbrev pub UsedTo : List ℕ → ℕ → ℕ → ℕ → Type 0
+UsedTo words s e i = (p : ℕ) → s ≤ p → p < e → p < i * 64 → slotIn words p ≡ true
+
+pub used-none : (words : List ℕ) (s e : ℕ) → UsedTo words s e (s / 64)
+used-none words s e p f b l = absurd (omega arith)
+
+pub used-on : (words : List ℕ) (s e i : ℕ) → i < 16 → (flag : Bool) → flag ≡ usedIn (getD words i 0) (partMask s e i) → flag ≡ true
+    → UsedTo words s e i → UsedTo words s e (i + 1)
+used-on words s e i here flag told yes-flag before p f b l =
+    either (ltb p (i * 64)) (λ t. before p f b (ltb-true p (i * 64) t))
+    (λ t. word-used words s e i here flag told yes-flag p f b (ltb-false p (i * 64) t) l)
+
+pub run-not-used : (words : List ℕ) (s n i : ℕ) → i < 16 → (flag : Bool) → flag ≡ usedIn (getD words i 0) (partMask s (s + n) i) → flag ≡ false
+    → false ≡ allUsed (slotIn words) s n
+run-not-used words s n i here flag told no-flag =
+    same-test false (allUsed (slotIn words) s n) (λ t. absurd t)
+    (λ t. word-not-used words s (s + n) i here flag told no-flag (λ p f b. finds-all-used (slotIn words) s n .0 t p (f, b)))

@@ -1,2 +1,3 @@
 pub mod OneWord
+pub mod Painting
 pub mod Sixteen

@@ -1,21 +1,18 @@
 -- What is done to sixteen words of 64 places, for every list of words: each result slot by slot. Rests on the digits of `bits` and on `slots`.
 use mathlib.Core.Path.{_≡_, refl, sym, ap, _∙_}
 use mathlib.Core.Logic.{_↔_}
-use mathlib.Core.Bool.{Bool, not, _&&_}
+use mathlib.Core.Bool.{Bool, not}
 use mathlib.Core.List.{List}
-use Prim.Native.Nat.{ℕ, _-_, _/_, _%_, _^_, _<_, min}
+use Prim.Native.Nat.{ℕ, _-_, _^_, _<_, min}
 use lib.ListN.{getD}
-use lib.Dec.{eqb, ltb}
+use lib.Dec.{eqb}
 use Rattle.bits.specs.Range.{least, count}
 use Rattle.bits.specs.Digits.{digit, number, number-is, digit-number}
-use Rattle.slots.specs.Sets.{Slots, allFree}
+use Rattle.layout.specs.Painting.{slotIn, paintedWords}
+use Rattle.slots.specs.Sets.{allFree, allUsed}
 use Rattle.slots.specs.Layouts.{Summed, digitsView, noDigits, slotUnder, SoundUnder, marks, marked}
 
 -- ---- what is answered
-
--- slot s is place s % 64 of word s / 64; past the last word no slot is used
-unfoldable pub slotIn : List ℕ → Slots
-slotIn words s = ltb s 1024 && digit (getD words (s / 64) 0) (s % 64)
 
 -- word i is not 0
 abbrev pub usedWord : List ℕ → ℕ → Bool
@@ -46,6 +43,12 @@ FirstFreeSays words from r = r ≡ firstFreeIn words from
 abbrev pub AllFreeSays : List ℕ → ℕ → ℕ → Bool → Type 0
 AllFreeSays words start n r = r ≡ allFree (slotIn words) start n
 
+abbrev pub PaintSays : List ℕ → ℕ → ℕ → Bool → List ℕ → Type 0
+PaintSays words start n used left = left ≡ paintedWords words start n used
+
+abbrev pub AllUsedSays : List ℕ → ℕ → ℕ → Bool → Type 0
+AllUsedSays words start n r = r ≡ allUsed (slotIn words) start n
+
 -- ---- any two answers that a contract allows coincide
 
 pub summary-one-answer : (words : List ℕ) (r q : ℕ) → SummarySays words r → SummarySays words q → r ≡ q
@@ -62,6 +65,13 @@ first-free-one-answer words from r q p o = p ∙ sym o
 
 pub all-free-one-answer : (words : List ℕ) (start n : ℕ) (r q : Bool) → AllFreeSays words start n r → AllFreeSays words start n q → r ≡ q
 all-free-one-answer words start n r q p o = p ∙ sym o
+
+pub all-used-one-answer : (words : List ℕ) (start n : ℕ) (r q : Bool) → AllUsedSays words start n r → AllUsedSays words start n q → r ≡ q
+all-used-one-answer words start n r q p o = p ∙ sym o
+
+pub paint-one-answer : (words : List ℕ) (start n : ℕ) (used : Bool) (left other : List ℕ) → PaintSays words start n used left → PaintSays words start n used other
+    → left ≡ other
+paint-one-answer words start n used left other p o = p ∙ sym o
 
 -- ---- the words as parts under a summary
 

@@ -2,10 +2,12 @@
 use crate::one_word;
 ghost use mathlib.Core.Path.{_≡_};
 ghost use mathlib.Core.Bool.{not};
-ghost use Prim.Native.Nat.{_<_, _*_, _^_};
+ghost use Prim.Native.Nat.{_≤_, _<_, _*_, _^_};
 ghost use lib.Dec.{eqb};
 ghost use Rattle.bits.specs.Range.{bit};
-ghost use Rattle.layout.specs.Sixteen.{SummarySays, GetSays, CountSays, FirstFreeSays, AllFreeSays};
+ghost use Rattle.layout.specs.OneWord.{paintedIn};
+ghost use Rattle.layout.specs.Painting.{endIn, partMask};
+ghost use Rattle.layout.specs.Sixteen.{SummarySays, GetSays, CountSays, FirstFreeSays, AllFreeSays, PaintSays, AllUsedSays};
 
 const SLOTS: usize = 1024;
 
@@ -82,6 +84,82 @@ pub fn all_free(words: &[u64; 16], start: usize, n: usize) -> bool
         }
         slot += 1;
         left -= 1;
+    }
+    true
+}
+
+// Where a run ends among the slots.
+fn end_of(start: usize, n: usize) -> usize
+    ensures { λ r. ⌜ r ≡ endIn start n ⌝ }
+{
+    if SLOTS <= start {
+        return SLOTS;
+    }
+    if SLOTS - start <= n {
+        return SLOTS;
+    }
+    start + n
+}
+
+// Ones at the places of word i that lie in the run from `start` to `end`.
+fn part_mask(start: usize, end: usize, i: usize) -> u64
+    requires { ⌜ (i * 64 < end) × (end ≤ 1024) ⌝ }
+    ensures { λ r. ⌜ r ≡ partMask start end i ⌝ }
+{
+    let first = i * 64;
+    if start <= first {
+        return one_word::run_mask(0, end - first);
+    }
+    if end <= start {
+        return 0;
+    }
+    one_word::run_mask(start - first, end - start)
+}
+
+// Gives the n slots from `start` on the value `used`, as far as there are slots.
+pub fn paint(words: &mut [u64; 16], start: usize, n: usize, used: bool)
+    ensures { λ _. ⌜ PaintSays (now (words .entry)) start n used (now (words .exit)) ⌝ }
+{
+    if SLOTS <= start {
+        return;
+    }
+    let end = end_of(start, n);
+    let mut i = start / 64;
+    while i * 64 < end {
+        words[i] = painted(words[i], part_mask(start, end, i), used);
+        i += 1;
+    }
+}
+
+fn painted(word: u64, mask: u64, used: bool) -> u64
+    ensures { λ r. ⌜ r ≡ paintedIn word mask used ⌝ }
+{
+    if used {
+        return one_word::mark(word, mask);
+    }
+    one_word::unmark(word, mask)
+}
+
+// Whether each of the n slots from `start` on is used, asked word by word; past the last, none is.
+pub fn all_used(words: &[u64; 16], start: usize, n: usize) -> bool
+    ensures { λ r. ⌜ AllUsedSays (now (words .entry)) start n r ⌝ }
+{
+    if n == 0 {
+        return true;
+    }
+    if SLOTS <= start {
+        return false;
+    }
+    if SLOTS - start < n {
+        return false;
+    }
+    let end = start + n;
+    let mut i = start / 64;
+    while i * 64 < end {
+        if !one_word::all_used(words[i], part_mask(start, end, i)) {
+            return false;
+        }
+        i += 1;
     }
     true
 }

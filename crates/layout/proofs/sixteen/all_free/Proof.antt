@@ -3,7 +3,7 @@ use mathlib.Core.Path.{_≡_, refl, sym, _∙_}
 use native.Mathlib.Omega.{arith}
 use borrow.Author.Needs.{needs}
 use Rattle.slots.specs.Sets.{allFree}
-use Rattle.layout.specs.Sixteen.{slotIn}
+use Rattle.layout.specs.Painting.{slotIn}
 use Rattle.layout.proofs.Words.{run-ended, run-stops, run-goes-on, run-past}
 use Rattle.layout.proofs.sixteen.all_free.Statement.{statement}
 use Rattle.layout.proofs.sixteen.all_free.Tie as tie

@@ -4,7 +4,7 @@ use Prim.Native.Nat.{ℕ, _+_, _-_, _*_, _≤_}
 use native.Mathlib.Omega.{arith}
 use borrow.Author.Needs.{needs}
 use Rattle.bits.specs.Range.{count, count-most}
-use Rattle.layout.specs.Sixteen.{slotIn}
+use Rattle.layout.specs.Painting.{slotIn}
 use Rattle.layout.proofs.Words.{word-most, count-next}
 use Rattle.layout.proofs.sixteen.count.Statement.{statement}
 use Rattle.layout.proofs.sixteen.count.Tie as tie

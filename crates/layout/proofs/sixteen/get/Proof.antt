@@ -5,7 +5,7 @@ use lib.ListN.{getD}
 use borrow.Author.Needs.{needs}
 use borrow.Author.Tests.{lt-ltb, le-ltb}
 use Rattle.bits.specs.Digits.{read-digit}
-use Rattle.layout.specs.Sixteen.{slotIn}
+use Rattle.layout.specs.Painting.{slotIn}
 use Rattle.layout.proofs.sixteen.get.Statement.{statement}
 use Rattle.layout.proofs.sixteen.get.Tie as tie
 

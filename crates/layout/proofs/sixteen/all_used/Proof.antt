@@ -1,0 +1,100 @@
+-- `layout::sixteen::all_used` meets its contract: before each word, the run's slots in the words before it are used. Assumes nothing.
+use mathlib.Core.Path.{ap, _∙_}
+use Prim.Native.Nat.{_+_, _-_, _/_, _≤_, _<_}
+use native.Mathlib.Nat.{pos-of-ne-zero}
+use lib.ListN.{getD}
+use native.Mathlib.Omega.{arith}
+use borrow.Author.Needs.{needs}
+use borrow.Author.Tests.{not-true, not-false}
+use Rattle.layout.specs.OneWord.{usedIn}
+use Rattle.layout.specs.Painting.{slotIn}
+use Rattle.layout.proofs.Words.{UsedTo, used-none, used-on, run-not-used, run-free-at, run-all-used, past-free}
+use Rattle.layout.proofs.sixteen.all_used.Statement.{statement}
+use Rattle.layout.proofs.sixteen.all_used.Tie as tie
+
+abbrev Inv-loop : tie.InvT-loop
+Inv-loop words start n end i₀ i = (start / 64 ≤ i) × (i ≤ 16) × UsedTo words start (start + n) i
+
+abbrev μ-loop : tie.MeasureT-loop
+μ-loop words start n end i₀ i = 16 - i
+
+returns : tie.Need-returns Inv-loop μ-loop
+returns c =
+    let asked = c .before .args in
+    run-all-used (slotIn (asked .words .now)) (asked .start) (asked .n) (λ p l b. absurd (omega (arith, c .if1 .taken)))
+
+returns-2 : tie.Need-returns-2 Inv-loop μ-loop
+returns-2 c =
+    let asked = c .before .before .args in
+    let some : 0 < asked .n = pos-of-ne-zero (c .before .if1 .left) in
+    run-free-at (slotIn (asked .words .now)) (asked .start) (asked .n) (asked .start) (omega arith) (omega arith) (past-free (asked .words .now) (asked .start) (c .if2 .taken))
+
+sub-if3 : tie.Need-sub-if3 Inv-loop μ-loop
+sub-if3 c = search needs
+
+returns-3 : tie.Need-returns-3 Inv-loop μ-loop
+returns-3 c =
+    let asked = c .before .before .before .args in
+    run-free-at (slotIn (asked .words .now)) (asked .start) (asked .n) 1024 (omega arith) (omega arith) (past-free (asked .words .now) 1024 (omega arith))
+
+add-end : tie.Need-add-end Inv-loop μ-loop
+add-end c = search needs
+
+loop-holds : tie.Need-loop-holds Inv-loop μ-loop
+loop-holds c =
+    let asked = c .before .before .before .args in
+    (omega arith, omega arith, used-none (asked .words .now) (asked .start) (asked .start + asked .n))
+
+mul-loop : tie.Need-mul-loop Inv-loop μ-loop
+mul-loop c = omega (arith, c .loop .inv .1)
+
+mul-all-used : tie.Need-mul-all-used Inv-loop μ-loop
+mul-all-used c = omega (arith, c .before .loop .inv .1)
+
+element-copy-out-all-used : tie.Need-element-copy-out-all-used Inv-loop μ-loop
+element-copy-out-all-used c = omega arith
+
+part-mask-requires : tie.Need-part-mask-requires Inv-loop μ-loop
+part-mask-requires c κs = (omega arith, omega arith)
+
+all-used-requires : tie.Need-all-used-requires Inv-loop μ-loop
+all-used-requires c κs = search needs
+
+returns-4 : tie.Need-returns-4 Inv-loop μ-loop
+returns-4 c =
+    let tested = c .before in
+    let masked = tested .before in
+    let at-head = masked .before .before .before in
+    let asked = at-head .before .before .before .before .args in
+    let told = tested .all-used .ensures ∙ ap (usedIn (getD (asked .words .now) (at-head .loop .i) 0)) (masked .part-mask .ensures) in
+    run-not-used (asked .words .now) (asked .start) (asked .n) (at-head .loop .i) (omega arith) _ told (not-true _ (c .if4 .taken))
+
+add-i : tie.Need-add-i Inv-loop μ-loop
+add-i c = omega (arith, c .before .before .before .before .before .loop .inv .1)
+
+loop-less : tie.Need-loop-less Inv-loop μ-loop
+loop-less c = omega arith
+
+loop-again : tie.Need-loop-again Inv-loop μ-loop
+loop-again c =
+    let tested = c .before in
+    let masked = tested .before in
+    let at-head = masked .before .before .before in
+    let asked = at-head .before .before .before .before .args in
+    let inv = at-head .loop .inv in
+    let told = tested .all-used .ensures ∙ ap (usedIn (getD (asked .words .now) (at-head .loop .i) 0)) (masked .part-mask .ensures) in (
+      omega (arith, inv .0),
+      omega arith,
+      used-on (asked .words .now) (asked .start) (asked .start + asked .n) (at-head .loop .i) (omega arith) _ told (not-false _ (c .if4 .left)) (inv .2),
+    )
+
+returns-5 : tie.Need-returns-5 Inv-loop μ-loop
+returns-5 c =
+    let at-head = c .before in
+    let asked = at-head .before .before .before .before .args in
+    run-all-used (slotIn (asked .words .now)) (asked .start) (asked .n) (λ p l b. at-head .loop .inv .2 p l b (omega arith))
+
+pub all-used-spec : {M : Type 1} → statement M
+all-used-spec =
+    tie.close
+    (tie.spec Inv-loop μ-loop returns returns-2 sub-if3 returns-3 add-end loop-holds mul-loop mul-all-used element-copy-out-all-used part-mask-requires all-used-requires returns-4 add-i loop-less loop-again returns-5)
