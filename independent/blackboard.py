@@ -71,53 +71,74 @@ def clear(buffer, start, end):
         buffer[offset] = "."
 
 
-# a word map is the set of its used slots; take, claim, free and set give the set that they leave
-
-SLOTS = range(64)
-
-
-def inside(start, n):
-    refuse(2, n == 0)
-    refuse(4, start > 64 or n > 64 - start)
-    return set(range(start, start + n))
+# a map is the set of its used slots and the number of slots that it has; take, claim, free and set give
+# the set that they leave. A word map has 64 slots; a tree has 1,024, and a summary that may be wrong
 
 
-def take(used, n, a):
-    refuse(2, n == 0)
-    refuse(3, a >= 6)
-    refuse(4, n > 64)
-    for start in SLOTS:
-        if start % 2**a == 0 and start + n <= 64 and used.isdisjoint(inside(start, n)):
-            return start, used | inside(start, n)
-    raise Refused(7)
+class Map:
+    def __init__(self, size, used=(), summary=None):
+        self.size, self.used, self.told = size, set(used), summary
 
+    def summary(self):
+        parts = range(self.size // 64)
+        right = sum(2**i for i in parts if any(slot // 64 == i for slot in self.used))
+        return right if self.told is None else self.told
 
-def claim(used, start, n):
-    named = inside(start, n)
-    refuse(6, named & used)
-    return None, used | named
+    def sound(self):
+        refuse(1, self.summary() != Map(self.size, self.used).summary())
 
+    def inside(self, start, n):
+        refuse(2, n == 0)
+        refuse(4, start > self.size or n > self.size - start)
+        return set(range(start, start + n))
 
-def free(used, start, n):
-    named = inside(start, n)
-    refuse(5, named - used)
-    return None, used - named
+    def take(self, n, a):
+        self.sound()
+        refuse(2, n == 0)
+        refuse(3, a >= 60 or 2**a >= self.size)
+        refuse(4, n > self.size)
+        for start in range(0, self.size - n + 1, 2**a):
+            run = set(range(start, start + n))
+            if self.used.isdisjoint(run):
+                return start, self.used | run
+        raise Refused(7)
 
+    def claim(self, start, n):
+        self.sound()
+        named = self.inside(start, n)
+        refuse(6, named & self.used)
+        return None, self.used | named
 
-def give(used, start, n, value):
-    named = inside(start, n)
-    return None, used | named if value else used - named
+    def free(self, start, n):
+        self.sound()
+        named = self.inside(start, n)
+        refuse(5, named - self.used)
+        return None, self.used - named
 
+    def give(self, start, n, value):
+        self.sound()
+        named = self.inside(start, n)
+        return None, self.used | named if value else self.used - named
 
-def next_free(used, start):
-    refuse(4, start >= 64)
-    refuse(7, all(slot in used for slot in SLOTS if slot >= start))
-    return min(slot for slot in SLOTS if slot >= start and slot not in used)
+    def next_free(self, start):
+        self.sound()
+        refuse(4, start >= self.size)
+        free = [slot for slot in range(start, self.size) if slot not in self.used]
+        refuse(7, free == [])
+        return min(free)
 
+    def get(self, slot):
+        self.sound()
+        refuse(4, slot >= self.size)
+        return slot in self.used
 
-def get(used, slot):
-    refuse(4, slot >= 64)
-    return slot in used
+    def empty(self):
+        self.sound()
+        return self.used == set()
+
+    def count(self):
+        self.sound()
+        return len(self.used)
 
 
 # ---- the lines
@@ -165,37 +186,84 @@ def cleared(start, end):
     print(f"clear {start}..{end} leaves {''.join(buffer)}: {answer}")
 
 
-def changed(words, used, call):
+def runs(used):
+    """The first and the last slot of each run, as a list of words."""
+    firsts = sorted(slot for slot in used if slot - 1 not in used)
+    lasts = sorted(slot for slot in used if slot + 1 not in used)
+    return "".join(f" {first}..{last}" for first, last in zip(firsts, lasts)) or " none"
+
+
+def picture(size, used, summary):
+    if size == 64:
+        return " " + "".join("#" if slot in used else "." for slot in range(64))
+    return f"{runs(used)} under summary {summary}"
+
+
+def changed(name, words, call):
+    before = MAPS[name]
+    used, summary = before.used, before.summary()
     try:
-        start, used = call(used)
+        start, used = call(before)
         answer = "ok" if start is None else f"at {start}"
+        summary = Map(before.size, used).summary()
     except Refused as refusal:
         answer = f"refused {refusal}"
-    picture = "".join("#" if slot in used else "." for slot in SLOTS)
-    print(f"{words}: {answer}, leaves {picture}")
+    print(f"{name}: {words}: {answer}, leaves{picture(before.size, used, summary)}")
 
 
-def takes(name, n, a):
-    changed(f"{name}: take {n} at a multiple of 2^{a}", MAPS[name], lambda used: take(used, n, a))
+def takes(name, n, a, how="take"):
+    changed(name, f"{how} {n} at a multiple of 2^{a}", lambda m: m.take(n, a))
 
 
 def claims(name, start, n):
-    changed(f"{name}: claim from {start}, {n}", MAPS[name], lambda used: claim(used, start, n))
+    changed(name, f"claim from {start}, {n}", lambda m: m.claim(start, n))
 
 
-def frees(name, start, n):
-    changed(f"{name}: free from {start}, {n}", MAPS[name], lambda used: free(used, start, n))
+def frees(name, start, n, how="free"):
+    changed(name, f"{how} from {start}, {n}", lambda m: m.free(start, n))
 
 
 def sets(name, start, n, value):
-    words = f"{name}: set {'used' if value else 'free'} from {start}, {n}"
-    changed(words, MAPS[name], lambda used: give(used, start, n, value))
+    changed(name, f"set {'used' if value else 'free'} from {start}, {n}", lambda m: m.give(start, n, value))
+
+
+def next_frees(name, start):
+    line(f"{name}: next free from {start}", lambda: MAPS[name].next_free(start))
+
+
+def gets(name, slot):
+    line(f"{name}: is used {slot}", lambda: MAPS[name].get(slot))
+
+
+def counts(name):
+    line(f"{name}: empty", MAPS[name].empty)
+    line(f"{name}: used", MAPS[name].count)
+    line(f"{name}: capacity", lambda: MAPS[name].size)
 
 
 TOP = 2**64 - 1
 EMPTY, FULL = "empty word", "full word"
 FIRST, THIRD, TENTH, LOW = "word with slot 0", "word with slot 2", "word with slot 10", "word with slots 0 to 62"
-MAPS = {EMPTY: set(), FULL: set(SLOTS), FIRST: {0}, THIRD: {2}, TENTH: {10}, LOW: set(range(63))}
+BARE, PACKED = "empty tree", "full tree"
+ONE, INNER, ACROSS = "tree with slot 0", "tree with slot 70", "tree with slots 60 to 67"
+MOST = "tree with slots 0 to 1022"
+BAD, HIDDEN = "no slot under summary 1", "all slots under summary 32767"
+MAPS = {
+    EMPTY: Map(64),
+    FULL: Map(64, range(64)),
+    FIRST: Map(64, {0}),
+    THIRD: Map(64, {2}),
+    TENTH: Map(64, {10}),
+    LOW: Map(64, range(63)),
+    BARE: Map(1024),
+    PACKED: Map(1024, range(1024)),
+    ONE: Map(1024, {0}),
+    INNER: Map(1024, {70}),
+    ACROSS: Map(1024, range(60, 68)),
+    MOST: Map(1024, range(1023)),
+    BAD: Map(1024, (), 1),
+    HIDDEN: Map(1024, range(1024), 32767),
+}
 
 # the paper's own
 up(4097, 4096)
@@ -209,6 +277,9 @@ intervals(0, 3, 4, 8)
 intervals(5, 3, 0, 10)
 takes(EMPTY, 1, 5)
 takes(EMPTY, 1, 6)
+next_frees(BARE, 1023)
+next_frees(BARE, 1024)
+next_frees(PACKED, 0)
 
 # masks
 for k in (0, 1, 63, 64, 65):
@@ -274,10 +345,55 @@ sets(FULL, 62, 2, False)
 sets(FULL, 62, 3, False)
 sets(FULL, 65, 0, False)
 for name, start in ((EMPTY, 0), (EMPTY, 63), (EMPTY, 64), (FULL, 0), (FULL, TOP), (LOW, 5)):
-    line(f"{name}: next free from {start}", lambda: next_free(MAPS[name], start))
+    next_frees(name, start)
 for name, slot in ((FULL, 63), (FULL, 64), (EMPTY, 0), (LOW, 62), (LOW, 63)):
-    line(f"{name}: is used {slot}", lambda: get(MAPS[name], slot))
+    gets(name, slot)
 for name in (EMPTY, FULL, LOW):
-    line(f"{name}: empty", lambda: MAPS[name] == set())
-    line(f"{name}: used", lambda: len(MAPS[name]))
-    line(f"{name}: capacity", lambda: len(SLOTS))
+    counts(name)
+
+# the tree map
+for n, a in ((1024, 9), (1025, 9), (1025, 10), (0, 10), (1, 10), (TOP, 0), (1, TOP)):
+    takes(BARE, n, a)
+takes(PACKED, 1, 0)
+for n, a in ((1, 9), (64, 0), (1023, 0), (1024, 0), (512, 9), (513, 9)):
+    takes(ONE, n, a)
+for n, a in ((70, 0), (71, 0), (71, 3), (200, 6)):
+    takes(INNER, n, a)
+takes(MOST, 1, 0)
+takes(MOST, 1, 1)
+takes(INNER, 71, 3, "take in place")
+takes(PACKED, 1, 0, "take in place")
+for start, n in ((0, 1024), (63, 2), (1023, 2), (1024, 0), (1024, 1), (TOP, 2)):
+    claims(BARE, start, n)
+for start, n in ((0, 60), (0, 61), (68, 956)):
+    claims(ACROSS, start, n)
+for start, n in ((0, 1024), (63, 2), (64, 64), (0, 0), (1, TOP)):
+    frees(PACKED, start, n)
+frees(BARE, 0, 1)
+for start, n in ((60, 8), (60, 9), (62, 4), (64, 4)):
+    frees(ACROSS, start, n)
+sets(ACROSS, 50, 100, True)
+sets(ACROSS, 50, 100, False)
+for start, n in ((1000, 24), (1000, 25), (1025, 0)):
+    sets(PACKED, start, n, False)
+frees(ACROSS, 62, 4, "free in place")
+frees(ACROSS, 60, 9, "free in place")
+for name, start in ((BARE, 0), (MOST, 0), (MOST, 1023), (PACKED, 1023), (PACKED, TOP)):
+    next_frees(name, start)
+for name, slot in ((PACKED, 1023), (PACKED, 1024), (BARE, 0), (MOST, 1022), (MOST, 1023)):
+    gets(name, slot)
+for name in (BARE, PACKED, MOST):
+    counts(name)
+
+# trees whose summary is wrong
+takes(BAD, 0, 10)
+takes(BAD, 1, 0, "take in place")
+claims(BAD, TOP, 2)
+frees(BAD, 0, 0)
+frees(BAD, 1, 1, "free in place")
+sets(BAD, 0, 1, True)
+next_frees(BAD, 1024)
+gets(BAD, 0)
+counts(BAD)
+gets(HIDDEN, 0)
+counts(HIDDEN)

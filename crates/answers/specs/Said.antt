@@ -57,6 +57,12 @@ pub judged-passed : {A : Type 0} (k : ℕ) (b : Bool) (a : A) → b ≡ false �
 unfolding judged
 judged-passed k b a e = rw e
 
+-- where a value is said, the first check has found nothing
+pub judged-checked : {A : Type 0} (k : ℕ) (b : Bool) (cs : List Check) (a x : A) → judged ((k when b) ∷ cs) a ≡ value x → (b ≡ false) × (judged cs a ≡ value x)
+unfolding judged
+judged-checked k true cs a x e = absurd (value≢refused x k (sym e))
+judged-checked k false cs a x e = (refl, e)
+
 -- ---- checks in two parts: the second part counts where the first finds nothing
 
 pub judged-first : {A B : Type 0} (cs ds : List Check) (a : A) (b : B) (k : ℕ) → judged cs a ≡ refused k → judged (cs ++ ds) b ≡ refused k

@@ -12,7 +12,7 @@ use lib.Bits.{bitAnd, bitOr, and-step, or-step, shifted-half, shifted-even}
 use lib.Count.{ones, ones-step, trailingZeros, under}
 use lib.Dec.{leb, ltb, eqb, leb·zero, leb·suc-zero, leb·suc-suc, eqb·zero-suc, eqb·suc-zero, eqb·suc-suc, ltb→lt, lt→ltb}
 use borrow.Author.Tests.{lt-ltb, le-ltb, eq-eqb, leb-true}
-use Rattle.bits.specs.Range.{bit, either, same-test, within, least, count, least-hit, least-miss, least-shift, count-shift}
+use Rattle.bits.specs.Range.{bit, and-true, and-false, either, same-test, within, least, count, least-hit, least-miss, least-shift, count-shift}
 
 -- ---- digits
 
@@ -39,14 +39,6 @@ bit-isOne (suc (suc d)) h = absurd (omega arith)
 isOne-bit : (b : Bool) → isOne (bit b) ≡ b
 isOne-bit true = refl
 isOne-bit false = refl
-
-and-true : (b : Bool) → b && true ≡ b
-and-true true = refl
-and-true false = refl
-
-and-false : (b : Bool) → b && false ≡ false
-and-false true = refl
-and-false false = refl
 
 bit-lt : (b : Bool) → bit b < 2
 bit-lt true = omega arith

@@ -2,7 +2,7 @@
 -- number of 64 bits. Then what each means, digit by digit, and that its contract leaves one answer. Rests on `Digits` and on `answers`.
 use mathlib.Core.Path.{_≡_, refl, sym, ap, _∙_}
 use mathlib.Core.Logic.{_↔_, inl}
-use mathlib.Core.Bool.{Bool, true, false, _&&_}
+use mathlib.Core.Bool.{Bool, _&&_}
 use mathlib.Core.List.{[], _∷_}
 use Prim.Native.Nat.{ℕ, _-_, _^_, _≤_, _<_, min}
 use native.Mathlib.Nat.{min-eq-left}
@@ -14,7 +14,7 @@ use Rattle.answers.specs.Said.{Said, value, _when_, judged}
 use Rattle.answers.specs.Faults.{_if_, FaultsDecide, faults-decide, finds-lt, finds-le, finds-both}
 use Rattle.answers.specs.Answers.{numberSays, number-says-injective}
 use Rattle.answers.specs.declared.Number.{Number}
-use Rattle.bits.specs.Range.{either, le-of-not-lt}
+use Rattle.bits.specs.Range.{and-false, either, le-of-not-lt}
 use Rattle.bits.specs.Digits.{digit, number, digit-number, number-lt, past-digit, low-mask-digit}
 
 -- ---- what is answered
@@ -74,10 +74,6 @@ one-bit-faults x = faults-decide _ _ (2 ^ x) (omega arith) (refl, finds-lt 63 x,
 pub mask-faults : (s e : ℕ) → FaultsDecide (maskBetween s e) (places s e) ((4 if (63 < e)) ∷ (10 if (e < s)) ∷ [])
 unfolding maskBetween
 mask-faults s e = faults-decide _ _ (places s e) (omega arith) (refl, finds-lt 63 e, λ _. (refl, finds-lt e s, λ _. tt))
-
-and-false : (b : Bool) → b && false ≡ false
-and-false true = refl
-and-false false = refl
 
 places-digit : (s e i : ℕ) → e ≤ 63 → digit (places s e) i ≡ leb s i && leb i e
 unfolding places

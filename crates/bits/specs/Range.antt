@@ -33,6 +33,24 @@ count test s (suc n) = bit (test s) + count test (suc s) n
 unfoldable pub within : ℕ → ℕ → ℕ → Bool
 within s n i = leb s i && ltb i (s + n)
 
+-- ---- with one side known, the other decides
+
+pub and-true : (b : Bool) → b && true ≡ b
+and-true true = refl
+and-true false = refl
+
+pub and-false : (b : Bool) → b && false ≡ false
+and-false true = refl
+and-false false = refl
+
+pub or-true : (b : Bool) → b || true ≡ true
+or-true true = refl
+or-true false = refl
+
+pub or-false : (b : Bool) → b || false ≡ b
+or-false true = refl
+or-false false = refl
+
 -- ---- a test passes or fails
 
 pub either : {P : Type 0} (b : Bool) → (b ≡ true → P) → (b ≡ false → P) → P

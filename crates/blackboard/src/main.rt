@@ -2,7 +2,10 @@
 // public function beside them. A program that shares nothing with this one prints the same lines.
 mod edges;
 mod show;
+mod trees;
+mod words;
 
+use tree::Tree;
 use word::Word;
 
 fn main() {
@@ -14,9 +17,13 @@ fn main() {
     edges::word_takes();
     edges::word_changes();
     edges::word_questions();
+    edges::tree_takes();
+    edges::tree_changes();
+    edges::tree_questions();
+    edges::unsound_trees();
 }
 
-// The lines of "Maps on the blackboard" that speak of the word map, of rounding and of spans.
+// The lines of "Maps on the blackboard" that have no star.
 fn documented() {
     show::align_up(4097, 4096);
     show::align_up(18446744073709547520, 4096);
@@ -30,6 +37,9 @@ fn documented() {
     show::overlap(0, 4, 4, 8);
     show::overlap(0, 3, 4, 8);
     show::overlap(5, 3, 0, 10);
-    show::take(b"empty word", Word::new_empty(), 1, 5);
-    show::take(b"empty word", Word::new_empty(), 1, 6);
+    words::take(b"empty word", Word::new_empty(), 1, 5);
+    words::take(b"empty word", Word::new_empty(), 1, 6);
+    trees::next_free(b"empty tree", Tree::new_empty(), 1023);
+    trees::next_free(b"empty tree", Tree::new_empty(), 1024);
+    trees::next_free(b"full tree", Tree::new_full(), 0);
 }

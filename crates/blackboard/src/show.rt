@@ -7,30 +7,28 @@ use answers::Refusal;
 use answers::Truth;
 use libc::STDOUT_FILENO;
 use spans::Clearing;
-use word::Changed;
-use word::Word;
 
-fn text(words: &[u8]) {
+pub fn text(words: &[u8]) {
     io::write_all(STDOUT_FILENO, words);
 }
 
-fn number(n: u64) {
+pub fn number(n: u64) {
     io::print_decimal(STDOUT_FILENO, n);
 }
 
-fn value(n: u64) {
+pub fn value(n: u64) {
     text(b": ");
     number(n);
     text(b"\n");
 }
 
-fn refusal(r: Refusal) {
+pub fn refusal(r: Refusal) {
     text(b": refused ");
     number(r.number() as u64);
     text(b"\n");
 }
 
-fn number_answer(answer: Number) {
+pub fn number_answer(answer: Number) {
     match answer {
         Number::Is(n) => value(n),
         Number::Refused(r) => refusal(r),
@@ -44,7 +42,7 @@ fn narrow_answer(answer: NarrowNumber) {
     }
 }
 
-fn truth_answer(answer: Truth) {
+pub fn truth_answer(answer: Truth) {
     match answer {
         Truth::Is(yes) => {
             if yes {
@@ -58,7 +56,7 @@ fn truth_answer(answer: Truth) {
 }
 
 // Two numbers with words before them and between them.
-fn asked(before: &[u8], x: u64, between: &[u8], y: u64) {
+pub fn asked(before: &[u8], x: u64, between: &[u8], y: u64) {
     text(before);
     number(x);
     text(between);
@@ -173,35 +171,9 @@ pub fn clear(start: usize, end: usize) {
     }
 }
 
-// ---- the word map: the map by its name, the call, its answer, and the slots that are then used
+// ---- the answers of a map
 
-// `#` for a used slot, a dot for a free one.
-fn slot_drawn(map: Word, slot: usize) {
-    let held = map.get(slot);
-    match held {
-        Truth::Is(used) => {
-            if used {
-                text(b"#");
-            } else {
-                text(b".");
-            }
-        }
-        Truth::Refused(r) => refusal(r),
-    }
-}
-
-// The slots in a row, slot 0 first.
-fn drawn(map: Word) {
-    let mut slot = 0;
-    while slot < 64 {
-        slot_drawn(map, slot);
-        slot += 1;
-    }
-}
-
-// The answer, and the map that is left.
-fn left(changed: Changed) {
-    let answer = changed.answer;
+pub fn answer(answer: Answer) {
     match answer {
         Answer::At(start) => {
             text(b": at ");
@@ -213,64 +185,11 @@ fn left(changed: Changed) {
             number(r.number() as u64);
         }
     }
-    text(b", leaves ");
-    drawn(changed.map);
-    text(b"\n");
 }
 
-pub fn take(name: &[u8], map: Word, n: usize, a: usize) {
-    text(name);
-    asked(b": take ", n as u64, b" at a multiple of 2^", a as u64);
-    left(map.take(n, a));
-}
-
-pub fn claim(name: &[u8], map: Word, start: usize, n: usize) {
-    text(name);
-    asked(b": claim from ", start as u64, b", ", n as u64);
-    left(map.claim(start, n));
-}
-
-pub fn free(name: &[u8], map: Word, start: usize, n: usize) {
-    text(name);
-    asked(b": free from ", start as u64, b", ", n as u64);
-    left(map.free(start, n));
-}
-
-pub fn set(name: &[u8], map: Word, start: usize, n: usize, used: bool) {
-    text(name);
-    if used {
-        asked(b": set used from ", start as u64, b", ", n as u64);
-    } else {
-        asked(b": set free from ", start as u64, b", ", n as u64);
-    }
-    left(map.set(start, n, used));
-}
-
-pub fn next_free(name: &[u8], map: Word, start: usize) {
-    text(name);
-    text(b": next free from ");
-    number(start as u64);
-    match map.next_free(start) {
+pub fn next_free_answer(answer: NextFree) {
+    match answer {
         NextFree::At(slot) => value(slot as u64),
         NextFree::Refused(r) => refusal(r),
     }
-}
-
-pub fn get(name: &[u8], map: Word, slot: usize) {
-    text(name);
-    text(b": is used ");
-    number(slot as u64);
-    truth_answer(map.get(slot));
-}
-
-pub fn counts(name: &[u8], map: Word) {
-    text(name);
-    text(b": empty");
-    truth_answer(Truth::Is(map.empty()));
-    text(name);
-    text(b": used");
-    value(map.used() as u64);
-    text(name);
-    text(b": capacity");
-    value(map.capacity() as u64);
 }

@@ -4,20 +4,21 @@ use mathlib.Core.Logic.{_↔_}
 use mathlib.Core.Bool.{Bool, true, false, not, _&&_, _||_}
 use mathlib.Core.List.{List}
 use Prim.Native.Nat.{ℕ, zero, suc, _+_, _-_, _*_, _/_, _%_, _^_, _≤_, _<_, zero-le, min}
-use native.Mathlib.Nat.{mod-eq-of-lt, zero-add, lt-of-not-le, min-eq-left, le-refl, le-trans}
+use native.Mathlib.Nat.{lt-of-le-of-lt, mod-eq-of-lt, zero-add, lt-of-not-le, min-eq-left, le-refl, le-trans}
 use native.Mathlib.Omega.{arith}
 use mir.Val.{boolByte}
 use lib.ListN.{getD, set}
-use lib.Bits.{bitOr, or-lt}
-use lib.Dec.{T, leb, ltb, eqb, leb→le, le→leb}
+use lib.Bits.{bitOr, bitAnd, or-lt, and-le-l}
+use lib.Dec.{T, leb, ltb, eqb, leb→le, le→leb, ltb→lt, lt→ltb}
 use lib.Pow.{pow-pos, pow-lt}
 use borrow.Author.Tests.{lt-ltb, le-ltb, lt-leb, le-leb, eq-eqb, ne-eqb, ltb-true, ltb-false, eqb-true, eqb-false, leb-true, not-true, not-false}
-use Rattle.bits.specs.Range.{bit, either, same-test, within, finds-every, every, least, least-is, least-none, least-from, least-passes, least-first, count, count-agree, count-most, count-split, count-moved}
-use Rattle.bits.specs.Digits.{digit, number, digit-number, number-is, number-agree, number-lt, zero-digit, or-digit, up-digit, bit-digit}
+use Rattle.bits.specs.Range.{bit, and-true, and-false, or-true, or-false, either, same-test, within, finds-every, every, least, least-is, least-none, least-from, least-passes, least-first, count, count-agree, count-most, count-split, count-moved}
+use Rattle.bits.specs.Digits.{digit, number, digit-number, number-is, number-agree, number-lt, zero-digit, and-digit, or-digit, up-digit, bit-digit, power-digit, complement-digit}
 use Rattle.slots.specs.Sets.{Slots, allFree, allUsed, finds-all-free, finds-all-used, finds-some-free}
-use Rattle.layout.specs.OneWord.{runMask, usedIn, paintedIn, firstFree}
-use Rattle.layout.specs.Painting.{slotIn, slot-in-word, endIn, partMask, paintedFirst, paint-on, paint-ahead}
-use Rattle.layout.specs.Sixteen.{firstFreeIn}
+use Rattle.slots.specs.Tries.{freeFrom}
+use Rattle.one_word.specs.OneWord.{runMask, usedIn, paintedIn}
+use Rattle.layout.specs.Sixteen.{usedWord, withBit}
+use Rattle.layout.specs.Painting.{slotIn, slot-in-word, endIn, partMask, reaches, paintedFirst, paint-on, paint-ahead}
 
 -- ---- a number whose places are set one after the other
 
@@ -30,18 +31,6 @@ no-places f w = number-is w 0 _ (pow-pos w) (λ p l. zero-digit p ∙ ap (λ (b 
 
 pub all-places : (f : ℕ → Bool) (w : ℕ) → firstPlaces f w w ≡ number f w
 all-places f w = number-agree _ f w (λ p l. ap (λ (b : Bool). b && f p) (lt-ltb p w l))
-
-and-false : (b : Bool) → b && false ≡ false
-and-false true = refl
-and-false false = refl
-
-or-true : (b : Bool) → b || true ≡ true
-or-true true = refl
-or-true false = refl
-
-or-false : (b : Bool) → b || false ≡ b
-or-false true = refl
-or-false false = refl
 
 joined : (f : ℕ → Bool) (i p : ℕ) → ltb p i && f p || leb i p && (eqb (p - i) 0 && f i) ≡ ltb p (i + 1) && f p
 joined f i p =
@@ -69,6 +58,74 @@ next-place f w i l = number-is w _ _ (or-lt w _ _ (number-lt _ w) (placed (f i) 
     ∙ ap₂ (λ (b c : Bool). b || c) (digit-number _ w p m) (up-digit (bit (f i)) i p ∙ ap (λ (b : Bool). leb i p && b) (bit-digit (f i) (p - i)))
     ∙ joined f i p)
 
+-- ---- a summary brought up to date place by place
+
+-- a place cleared and then set as v has it
+pub replaced : (summary i : ℕ) (v : Bool) → summary < 2 ^ 16 → i < 16
+    → bitOr (bitAnd summary ((2 ^ 16 - 1) - 2 ^ i)) (bit v * 2 ^ i) ≡ withBit summary v i
+unfolding withBit
+replaced summary i v held l = number-is 16 _ _ (or-lt 16 _ _ (lt-of-le-of-lt (and-le-l summary _) held) (placed v 16 i l)) (λ p m.
+    or-digit (bitAnd summary ((2 ^ 16 - 1) - 2 ^ i)) (bit v * 2 ^ i) p
+    ∙ ap₂ (λ (b c : Bool). b || c)
+    (and-digit summary _ p ∙ ap (λ (b : Bool). digit summary p && b) (complement-digit 16 (2 ^ i) p (pow-lt l) m ∙ ap not (power-digit i p)))
+    (up-digit (bit v) i p ∙ ap (λ (b : Bool). leb i p && b) (bit-digit v (p - i)))
+    ∙ chosen p)
+  where
+    chosen : (p : ℕ) → digit summary p && not (eqb p i) || leb i p && (eqb (p - i) 0 && v) ≡ elim (eqb p i) [ true ↦ v | false ↦ digit summary p ]
+    chosen p =
+        either (eqb p i)
+        (λ e. let same = eqb-true p i e in rw (e, and-false (digit summary p), le-leb i p (omega arith), eq-eqb (p - i) 0 (omega arith)))
+        (λ e. let other = eqb-false p i e in
+        either (leb i p)
+        (λ t. rw (e, t, ne-eqb (p - i) 0 (λ h. other (omega (arith, leb-true i p t, h))), and-true (digit summary p)) (or-false (digit summary p)))
+        (λ t. rw (e, t, and-true (digit summary p)) (or-false (digit summary p))))
+
+-- the reached bits of the words below i are up to date
+abbrev pub touchedFirst : List ℕ → ℕ → ℕ → ℕ → ℕ → ℕ
+touchedFirst words summary s e i = number (λ p. elim (reaches s e p && ltb p i) [ true ↦ usedWord words p | false ↦ digit summary p ]) 16
+
+module _ (words : List ℕ) (summary s e : ℕ) where
+  abbrev place-as : ℕ → Bool → Bool
+  place-as p done = elim done [ true ↦ usedWord words p | false ↦ digit summary p ]
+
+  abbrev picked : ℕ → ℕ → Bool → Bool
+  picked i p here = elim here [ true ↦ usedWord words i | false ↦ digit (touchedFirst words summary s e i) p ]
+
+  pub touch-none : summary < 2 ^ 16 → (i : ℕ) → i ≤ s / 64 → summary ≡ touchedFirst words summary s e i
+  touch-none held i l = number-is 16 summary _ held (λ p m. sym (ap (place-as p) (unreached p)))
+    where
+      unreached : (p : ℕ) → reaches s e p && ltb p i ≡ false
+      unreached p =
+          either (ltb p i) (λ t. rw (lt-leb (s / 64) p (omega (arith, ltb-true p i t)))) (λ t. rw (t, and-false (reaches s e p)))
+
+  pub touch-on : (i : ℕ) → s / 64 ≤ i → i * 64 < e → withBit (touchedFirst words summary s e i) (usedWord words i) i ≡ touchedFirst words summary s e (i + 1)
+  unfolding withBit
+  touch-on i l h = number-agree _ _ 16 (λ p m. either (eqb p i) (λ t. at-place p t) (λ t. elsewhere p m t))
+    where
+      below : (p : ℕ) → (p ≡ i → ⊥) → p < i + 1 → p < i
+      below p other b = lt-of-not-le (λ g. other (omega arith))
+
+      at-place : (p : ℕ) → eqb p i ≡ true → picked i p (eqb p i) ≡ place-as p (reaches s e p && ltb p (i + 1))
+      at-place p t =
+          let same = eqb-true p i t in
+          let now : reaches s e p && ltb p (i + 1) ≡ true = rw (le-leb (s / 64) p (omega arith), lt-ltb (p * 64) e (omega arith), lt-ltb p (i + 1) (omega arith)) in
+          ap (picked i p) t ∙ ap (usedWord words) (sym same) ∙ sym (ap (place-as p) now)
+
+      elsewhere : (p : ℕ) → p < 16 → eqb p i ≡ false → picked i p (eqb p i) ≡ place-as p (reaches s e p && ltb p (i + 1))
+      elsewhere p m t =
+          let other = eqb-false p i t in
+          ap (picked i p) t ∙ digit-number (λ q. place-as q (reaches s e q && ltb q i)) 16 p m
+          ∙ ap (λ (b : Bool). place-as p (reaches s e p && b))
+          (same-test (ltb p i) (ltb p (i + 1)) (λ a. lt→ltb p (i + 1) (omega (arith, ltb→lt p i a))) (λ a. lt→ltb p i (below p other (ltb→lt p (i + 1) a))))
+
+  pub touch-all : (i : ℕ) → e ≤ i * 64 → touchedFirst words summary s e i ≡ number (λ p. elim (reaches s e p) [ true ↦ usedWord words p | false ↦ digit summary p ]) 16
+  touch-all i h = number-agree _ _ 16 (λ p m. ap (place-as p) (whole p))
+    where
+      whole : (p : ℕ) → reaches s e p && ltb p i ≡ reaches s e p
+      whole p =
+          either (ltb p i) (λ t. rw (t, and-true (reaches s e p)))
+          (λ t. rw (t, and-false (reaches s e p), le-ltb (p * 64) e (omega (arith, ltb-false p i t))) (sym (and-false (leb (s / 64) p))))
+
 -- ---- slots counted word by word
 
 pub word-most : (word r : ℕ) → r ≡ count (digit word) 0 64 → r ≤ 64
@@ -90,7 +147,7 @@ count-next words i h =
 seen : (words : List ℕ) (i p : ℕ) → i < 16 → i * 64 ≤ p → p < (i + 1) * 64 → slotIn words p ≡ digit (getD words i 0) (p - i * 64)
 seen words i p h l b = ap (slotIn words) (omega arith) ∙ slot-in-word words i (p - i * 64) h (omega arith)
 
-module _ (words : List ℕ) (start place : ℕ) (inside : start < 1024) (told : place ≡ firstFree (getD words (start / 64) 0) (start % 64)) where
+module _ (words : List ℕ) (start place : ℕ) (inside : start < 1024) (told : place ≡ freeFrom 6 (digit (getD words (start / 64) 0)) (start % 64)) where
   abbrev word : ℕ
   word = getD words (start / 64) 0
 
@@ -98,7 +155,7 @@ module _ (words : List ℕ) (start place : ℕ) (inside : start < 1024) (told : 
   here = omega arith
 
   place-is : place ≡ least (λ i. not (digit word i)) (start % 64) (64 - start % 64)
-  unfolding firstFree
+  unfolding freeFrom
   place-is = told ∙ ap (λ (s : ℕ). least (λ i. not (digit word i)) s (64 - start % 64)) (min-eq-left (omega arith))
 
   -- each slot of the word from the start on is used, up to the place
@@ -136,8 +193,8 @@ module _ (words : List ℕ) (from start : ℕ) (passed : Passed words from start
     used = λ p f b h. either (ltb p start) (λ e. passed .used p f (ltb-true p start e) h) (λ e. more p (ltb-false p start e) b);
   }
 
-  pub passed-found : (r : ℕ) → start ≤ r → r < 1024 → slotIn words r ≡ false → ((p : ℕ) → start ≤ p → p < r → slotIn words p ≡ true) → r ≡ firstFreeIn words from
-  unfolding firstFreeIn
+  pub passed-found : (r : ℕ) → start ≤ r → r < 1024 → slotIn words r ≡ false → ((p : ℕ) → start ≤ p → p < r → slotIn words p ≡ true) → r ≡ freeFrom 10 (slotIn words) from
+  unfolding freeFrom
   passed-found r l b free more =
       let all = passed-on r l more in
       let low = le-trans (passed .later) l in
@@ -145,8 +202,8 @@ module _ (words : List ℕ) (from start : ℕ) (passed : Passed words from start
       sym (rw (min-eq-left near)
       (least-is (λ i. not (slotIn words i)) from (1024 - from) r low (omega arith) (ap not free) (λ p f h. ap not (all .used p f h (omega arith)))))
 
-  pub passed-all : 1024 ≤ start → 1024 ≡ firstFreeIn words from
-  unfolding firstFreeIn
+  pub passed-all : 1024 ≤ start → 1024 ≡ freeFrom 10 (slotIn words) from
+  unfolding freeFrom
   passed-all past =
       sym (least-none (λ i. not (slotIn words i)) (min from 1024) (1024 - from) (λ p f h. ap not (passed .used p (omega arith) (omega arith) (omega arith))) ∙ omega arith)
 

@@ -10,10 +10,10 @@ use lib.Seq.{getD-set-other, getD-set-same}
 use lib.Dec.{leb, ltb, eqb, ltb→lt, lt→ltb}
 use lib.Pow.{pow-pos}
 use borrow.Author.Tests.{lt-ltb, le-ltb, lt-leb, le-leb, eqb-true, eqb-false, leb-true, ltb-true, ltb-false}
-use Rattle.bits.specs.Range.{either, same-test, within}
+use Rattle.bits.specs.Range.{and-false, either, same-test, within}
 use Rattle.bits.specs.Digits.{digit, number, digit-number, number-lt}
 use Rattle.slots.specs.Sets.{Slots, painted}
-use Rattle.layout.specs.OneWord.{paintedIn, paintedPlace}
+use Rattle.one_word.specs.OneWord.{paintedIn, paintedPlace}
 
 -- ---- the slots
 
@@ -39,11 +39,15 @@ endIn s n = min (s + n) 1024
 unfoldable pub partMask : ℕ → ℕ → ℕ → ℕ
 partMask s e i = number (λ p. leb s (i * 64 + p) && ltb (i * 64 + p) e) 64
 
+-- the run reaches word i
+abbrev pub reaches : ℕ → ℕ → ℕ → Bool
+reaches s e i = leb (s / 64) i && ltb (i * 64) e
+
 -- the words with the run's places in the first i of them painted; a word that the run does not reach is as it was
 unfoldable pub paintedFirst : List ℕ → ℕ → ℕ → Bool → ℕ → List ℕ
 paintedFirst words s e v zero = words
 paintedFirst words s e v (suc i) =
-    elim (leb (s / 64) i && ltb (i * 64) e) [
+    elim (reaches s e i) [
       | true ↦ set (paintedFirst words s e v i) i (paintedIn (getD words i 0) (partMask s e i) v)
       | false ↦ paintedFirst words s e v i
     ]
@@ -53,16 +57,12 @@ paintedWords words s n v = paintedFirst words s (endIn s n) v 16
 
 -- ---- word by word
 
-and-false : (b : Bool) → b && false ≡ false
-and-false true = refl
-and-false false = refl
-
 module _ (words : List ℕ) (s e : ℕ) (v : Bool) where
   abbrev onward : ℕ → Bool → List ℕ
   onward i reached =
       elim reached [ true ↦ set (paintedFirst words s e v i) i (paintedIn (getD words i 0) (partMask s e i) v) | false ↦ paintedFirst words s e v i ]
 
-  passes-by : (i : ℕ) → leb (s / 64) i && ltb (i * 64) e ≡ false → paintedFirst words s e v (suc i) ≡ paintedFirst words s e v i
+  passes-by : (i : ℕ) → reaches s e i ≡ false → paintedFirst words s e v (suc i) ≡ paintedFirst words s e v i
   unfolding paintedFirst
   passes-by i h = ap (onward i) h
 
@@ -78,7 +78,7 @@ module _ (words : List ℕ) (s e : ℕ) (v : Bool) where
   unfolding paintedFirst
   paint-on i l h =
       let next : i + 1 ≡ suc i = omega arith in
-      let reached : leb (s / 64) i && ltb (i * 64) e ≡ true = rw (le-leb (s / 64) i l, lt-ltb (i * 64) e h) in
+      let reached : reaches s e i ≡ true = rw (le-leb (s / 64) i l, lt-ltb (i * 64) e h) in
       sym (ap (paintedFirst words s e v) next ∙ ap (onward i) reached)
 
   -- past the run's end nothing is painted
@@ -93,7 +93,7 @@ module _ (words : List ℕ) (s e : ℕ) (v : Bool) where
   unfolding paintedFirst
   paint-ahead zero j h = refl
   paint-ahead (suc i) j h =
-      either (leb (s / 64) i && ltb (i * 64) e)
+      either (reaches s e i)
       (λ t. ap (λ (b : Bool). getD (onward i b) j 0) t ∙ getD-set-other (paintedFirst words s e v i) i j _ 0 (λ same. omega arith) ∙ paint-ahead i j (omega arith))
       (λ t. ap (λ (b : Bool). getD (onward i b) j 0) t ∙ paint-ahead i j (omega arith))
 
@@ -101,35 +101,35 @@ module _ (words : List ℕ) (s e : ℕ) (v : Bool) where
   unfolding paintedFirst
   painted-length zero = refl
   painted-length (suc i) =
-      either (leb (s / 64) i && ltb (i * 64) e)
+      either (reaches s e i)
       (λ t. ap (λ (b : Bool). length (onward i b)) t ∙ length-set (paintedFirst words s e v i) i _ ∙ painted-length i)
       (λ t. ap (λ (b : Bool). length (onward i b)) t ∙ painted-length i)
 
   -- a word that the run reaches, and one that it does not
-  just-painted : (k : ℕ) → k < length words → leb (s / 64) k && ltb (k * 64) e ≡ true
+  just-painted : (k : ℕ) → k < length words → reaches s e k ≡ true
       → getD (paintedFirst words s e v (suc k)) k 0 ≡ paintedIn (getD words k 0) (partMask s e k) v
   unfolding paintedFirst
   just-painted k h t = ap (λ (b : Bool). getD (onward k b) k 0) t ∙ getD-set-same (paintedFirst words s e v k) k _ 0 (rw (painted-length k) h)
 
-  pub painted-word : (k i : ℕ) → i < k → i < length words → leb (s / 64) i && ltb (i * 64) e ≡ true
+  pub painted-word : (k i : ℕ) → i < k → i < length words → reaches s e i ≡ true
       → getD (paintedFirst words s e v k) i 0 ≡ paintedIn (getD words i 0) (partMask s e i) v
   unfolding paintedFirst
   painted-word zero i l h t = absurd (omega arith)
   painted-word (suc k) i l h t =
       either (eqb i k) (λ same. let at-top = eqb-true i k same in rw at-top (just-painted k (rw (sym at-top) h) (rw (sym at-top) t)))
       (λ differs. let other = eqb-false i k differs in
-      either (leb (s / 64) k && ltb (k * 64) e)
+      either (reaches s e k)
       (λ r. ap (λ (b : Bool). getD (onward k b) i 0) r ∙ getD-set-other (paintedFirst words s e v k) k i _ 0 other ∙ painted-word k i (below other) h t)
       (λ r. ap (λ (b : Bool). getD (onward k b) i 0) r ∙ painted-word k i (below other) h t))
     where
       below : (i ≡ k → ⊥) → i < k
       below other = lt-of-not-le (λ g. other (omega arith))
 
-  pub kept-word : (k i : ℕ) → leb (s / 64) i && ltb (i * 64) e ≡ false → getD (paintedFirst words s e v k) i 0 ≡ getD words i 0
+  pub kept-word : (k i : ℕ) → reaches s e i ≡ false → getD (paintedFirst words s e v k) i 0 ≡ getD words i 0
   unfolding paintedFirst
   kept-word zero i t = refl
   kept-word (suc k) i t =
-      either (leb (s / 64) k && ltb (k * 64) e)
+      either (reaches s e k)
       (λ r. ap (λ (b : Bool). getD (onward k b) i 0) r
       ∙ getD-set-other (paintedFirst words s e v k) k i _ 0 (λ same. true≢false (sym r ∙ rw (sym same) t)) ∙ kept-word k i t)
       (λ r. ap (λ (b : Bool). getD (onward k b) i 0) r ∙ kept-word k i t)
@@ -150,7 +150,7 @@ module _ (words : List ℕ) (s e : ℕ) (v : Bool) where
   unfolding paintedIn paintedPlace
   digit-painted x m q l = digit-number (paintedPlace x m v) 64 q l
 
-  unreached : (p : ℕ) → leb (s / 64) (p / 64) && ltb (p / 64 * 64) e ≡ false → leb s p && ltb p e ≡ false
+  unreached : (p : ℕ) → reaches s e (p / 64) ≡ false → leb s p && ltb p e ≡ false
   unreached p t =
       either (leb s p)
       (λ a. either (ltb p e)
@@ -165,7 +165,7 @@ module _ (words : List ℕ) (s e : ℕ) (v : Bool) where
   pub painted-slot : length words ≡ 16 → (p : ℕ) → p < 1024 → slotIn (paintedFirst words s e v 16) p ≡ elim (leb s p && ltb p e) [ true ↦ v | false ↦ slotIn words p ]
   painted-slot sixteen p l =
       in-word (paintedFirst words s e v 16) p l
-      ∙ either (leb (s / 64) (p / 64) && ltb (p / 64 * 64) e)
+      ∙ either (reaches s e (p / 64))
       (λ t. ap (λ (x : ℕ). digit x (p % 64)) (painted-word 16 (p / 64) (omega arith) (rw sixteen (omega arith)) t)
       ∙ digit-painted (getD words (p / 64) 0) (partMask s e (p / 64)) (p % 64) (omega arith)
       ∙ ap₂ (λ (b x : Bool). elim b [ true ↦ v | false ↦ x ]) (in-part p) (sym (in-word words p l)))
@@ -180,7 +180,7 @@ module _ (words : List ℕ) (s e : ℕ) (v : Bool) where
   -- and words they stay
   pub painted-fit : ((i : ℕ) → getD words i 0 < 2 ^ 64) → (k i : ℕ) → getD (paintedFirst words s e v k) i 0 < 2 ^ 64
   painted-fit fit k i =
-      either (leb (s / 64) i && ltb (i * 64) e)
+      either (reaches s e i)
       (λ t. either (ltb i k)
       (λ a. either (ltb i (length words)) (λ b. rw (painted-word k i (ltb-true i k a) (ltb-true i (length words) b) t) (small (getD words i 0) (partMask s e i)))
       (λ b. rw (List·getD-eq-default (paintedFirst words s e v k) 0 {n = i} (rw (painted-length k) (ltb-false i (length words) b))) (pow-pos 64)))

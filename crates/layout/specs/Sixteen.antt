@@ -1,15 +1,16 @@
 -- What is done to sixteen words of 64 places, for every list of words: each result slot by slot. Rests on the digits of `bits` and on `slots`.
 use mathlib.Core.Path.{_≡_, refl, sym, ap, _∙_}
 use mathlib.Core.Logic.{_↔_}
-use mathlib.Core.Bool.{Bool, not}
+use mathlib.Core.Bool.{Bool, true, false, not}
 use mathlib.Core.List.{List}
-use Prim.Native.Nat.{ℕ, _-_, _^_, _<_, min}
+use Prim.Native.Nat.{ℕ, _^_, _<_}
 use lib.ListN.{getD}
 use lib.Dec.{eqb}
-use Rattle.bits.specs.Range.{least, count}
-use Rattle.bits.specs.Digits.{digit, number, number-is, digit-number}
-use Rattle.layout.specs.Painting.{slotIn, paintedWords}
+use Rattle.bits.specs.Range.{either, count}
+use Rattle.bits.specs.Digits.{digit, number, number-agree, number-is, digit-number}
+use Rattle.layout.specs.Painting.{slotIn, endIn, reaches, paintedFirst, paintedWords, kept-word}
 use Rattle.slots.specs.Sets.{allFree, allUsed}
+use Rattle.slots.specs.Tries.{freeFrom}
 use Rattle.slots.specs.Layouts.{Summed, digitsView, noDigits, slotUnder, SoundUnder, marks, marked}
 
 -- ---- what is answered
@@ -22,9 +23,13 @@ usedWord words i = not (eqb (getD words i 0) 0)
 unfoldable pub summaryOf : List ℕ → ℕ
 summaryOf words = number (usedWord words) 16
 
--- the least free slot from s on, or 1024
-unfoldable pub firstFreeIn : List ℕ → ℕ → ℕ
-firstFreeIn words s = least (λ i. not (slotIn words i)) (min s 1024) (1024 - s)
+-- the summary with bit i given the value v
+unfoldable pub withBit : ℕ → Bool → ℕ → ℕ
+withBit summary v i = number (λ p. elim (eqb p i) [ true ↦ v | false ↦ digit summary p ]) 16
+
+-- the summary with the bit of each word that the n slots from s on reach brought up to date, set or cleared
+unfoldable pub touchedSummary : List ℕ → ℕ → ℕ → ℕ → ℕ
+touchedSummary words summary s n = number (λ i. elim (reaches s (endIn s n) i) [ true ↦ usedWord words i | false ↦ digit summary i ]) 16
 
 -- ---- the contracts
 
@@ -38,13 +43,16 @@ abbrev pub CountSays : List ℕ → ℕ → Type 0
 CountSays words r = r ≡ count (slotIn words) 0 1024
 
 abbrev pub FirstFreeSays : List ℕ → ℕ → ℕ → Type 0
-FirstFreeSays words from r = r ≡ firstFreeIn words from
+FirstFreeSays words from r = r ≡ freeFrom 10 (slotIn words) from
 
 abbrev pub AllFreeSays : List ℕ → ℕ → ℕ → Bool → Type 0
 AllFreeSays words start n r = r ≡ allFree (slotIn words) start n
 
 abbrev pub PaintSays : List ℕ → ℕ → ℕ → Bool → List ℕ → Type 0
 PaintSays words start n used left = left ≡ paintedWords words start n used
+
+abbrev pub TouchedSays : List ℕ → ℕ → ℕ → ℕ → ℕ → Type 0
+TouchedSays words summary start n r = r ≡ touchedSummary words summary start n
 
 abbrev pub AllUsedSays : List ℕ → ℕ → ℕ → Bool → Type 0
 AllUsedSays words start n r = r ≡ allUsed (slotIn words) start n
@@ -73,7 +81,22 @@ pub paint-one-answer : (words : List ℕ) (start n : ℕ) (used : Bool) (left ot
     → left ≡ other
 paint-one-answer words start n used left other p o = p ∙ sym o
 
+pub touched-one-answer : (words : List ℕ) (summary start n r q : ℕ) → TouchedSays words summary start n r → TouchedSays words summary start n q → r ≡ q
+touched-one-answer words summary start n r q p o = p ∙ sym o
+
 -- ---- the words as parts under a summary
+
+-- once a run is painted, bringing the bits of the touched words up to date makes the summary right again
+pub touched-right : (words : List ℕ) (summary s n : ℕ) (v : Bool) → summary ≡ summaryOf words
+    → touchedSummary (paintedWords words s n v) summary s n ≡ summaryOf (paintedWords words s n v)
+unfolding touchedSummary summaryOf paintedWords
+touched-right words summary s n v e = number-agree _ (usedWord (paintedFirst words s (endIn s n) v 16)) 16 (λ i l.
+    either (reaches s (endIn s n) i) (λ t. ap (at-word i) t)
+    (λ t. ap (at-word i) t ∙ ap (λ (m : ℕ). digit m i) e ∙ digit-number (usedWord words) 16 i l
+    ∙ ap (λ (word : ℕ). not (eqb word 0)) (sym (kept-word words s (endIn s n) v 16 i t))))
+  where
+    at-word : ℕ → Bool → Bool
+    at-word i reached = elim reached [ true ↦ usedWord (paintedFirst words s (endIn s n) v 16) i | false ↦ digit summary i ]
 
 -- the words' slots are those of the view
 pub slots-of-view : (m : Summed ℕ) (s : ℕ) → slotIn (m .parts) s ≡ slotUnder (digitsView 6) (noDigits 6) 4 m s

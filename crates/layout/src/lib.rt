@@ -1,5 +1,4 @@
-// What can be done to words without judging it: masks for a run, are these places all free, all
-// used, paint them, the first free place, the count. No function here refuses; each answers for
-// every input. Rests on `bits`.
-pub mod one_word;
+// What can be done to many words without judging it: is the summary right, are these slots all free,
+// all used, paint them, the first free slot, the count. No function here refuses; each answers for
+// every input. Rests on `one_word`.
 pub mod sixteen;

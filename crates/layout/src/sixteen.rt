@@ -1,13 +1,12 @@
 // Sixteen words of 64 slots: slot s is place s % 64 of word s / 64.
-use crate::one_word;
 ghost use mathlib.Core.Path.{_≡_};
 ghost use mathlib.Core.Bool.{not};
 ghost use Prim.Native.Nat.{_≤_, _<_, _*_, _^_};
 ghost use lib.Dec.{eqb};
 ghost use Rattle.bits.specs.Range.{bit};
-ghost use Rattle.layout.specs.OneWord.{paintedIn};
+ghost use Rattle.one_word.specs.OneWord.{RunMaskSays, paintedIn};
 ghost use Rattle.layout.specs.Painting.{endIn, partMask};
-ghost use Rattle.layout.specs.Sixteen.{SummarySays, GetSays, CountSays, FirstFreeSays, AllFreeSays, PaintSays, AllUsedSays};
+ghost use Rattle.layout.specs.Sixteen.{SummarySays, GetSays, CountSays, FirstFreeSays, AllFreeSays, PaintSays, AllUsedSays, TouchedSays, withBit};
 
 const SLOTS: usize = 1024;
 
@@ -29,6 +28,32 @@ fn used_bit(word: u64, i: usize) -> u16
     ensures { λ r. ⌜ r ≡ bit (not (eqb word 0)) * 2 ^ i ⌝ }
 {
     ((word != 0) as u16) << i
+}
+
+// The summary with the bit of each word that the n slots from `start` on reach brought up to date,
+// set or cleared; the other bits stay.
+pub fn touched(words: &[u64; 16], summary: u16, start: usize, n: usize) -> u16
+    ensures { λ r. ⌜ TouchedSays (now (words .entry)) summary start n r ⌝ }
+{
+    if SLOTS <= start {
+        return summary;
+    }
+    let end = end_of(start, n);
+    let mut updated = summary;
+    let mut i = start / 64;
+    while i * 64 < end {
+        updated = with_bit(updated, words[i], i);
+        i += 1;
+    }
+    updated
+}
+
+// The summary with bit i as the word has it.
+fn with_bit(summary: u16, word: u64, i: usize) -> u16
+    requires { ⌜ i < 16 ⌝ }
+    ensures { λ r. ⌜ r ≡ withBit summary (not (eqb word 0)) i ⌝ }
+{
+    (summary & !(1 << i)) | used_bit(word, i)
 }
 
 // Whether the slot is used; past the last, no.
@@ -88,58 +113,6 @@ pub fn all_free(words: &[u64; 16], start: usize, n: usize) -> bool
     true
 }
 
-// Where a run ends among the slots.
-fn end_of(start: usize, n: usize) -> usize
-    ensures { λ r. ⌜ r ≡ endIn start n ⌝ }
-{
-    if SLOTS <= start {
-        return SLOTS;
-    }
-    if SLOTS - start <= n {
-        return SLOTS;
-    }
-    start + n
-}
-
-// Ones at the places of word i that lie in the run from `start` to `end`.
-fn part_mask(start: usize, end: usize, i: usize) -> u64
-    requires { ⌜ (i * 64 < end) × (end ≤ 1024) ⌝ }
-    ensures { λ r. ⌜ r ≡ partMask start end i ⌝ }
-{
-    let first = i * 64;
-    if start <= first {
-        return one_word::run_mask(0, end - first);
-    }
-    if end <= start {
-        return 0;
-    }
-    one_word::run_mask(start - first, end - start)
-}
-
-// Gives the n slots from `start` on the value `used`, as far as there are slots.
-pub fn paint(words: &mut [u64; 16], start: usize, n: usize, used: bool)
-    ensures { λ _. ⌜ PaintSays (now (words .entry)) start n used (now (words .exit)) ⌝ }
-{
-    if SLOTS <= start {
-        return;
-    }
-    let end = end_of(start, n);
-    let mut i = start / 64;
-    while i * 64 < end {
-        words[i] = painted(words[i], part_mask(start, end, i), used);
-        i += 1;
-    }
-}
-
-fn painted(word: u64, mask: u64, used: bool) -> u64
-    ensures { λ r. ⌜ r ≡ paintedIn word mask used ⌝ }
-{
-    if used {
-        return one_word::mark(word, mask);
-    }
-    one_word::unmark(word, mask)
-}
-
 // Whether each of the n slots from `start` on is used, asked word by word; past the last, none is.
 pub fn all_used(words: &[u64; 16], start: usize, n: usize) -> bool
     ensures { λ r. ⌜ AllUsedSays (now (words .entry)) start n r ⌝ }
@@ -156,10 +129,86 @@ pub fn all_used(words: &[u64; 16], start: usize, n: usize) -> bool
     let end = start + n;
     let mut i = start / 64;
     while i * 64 < end {
-        if !one_word::all_used(words[i], part_mask(start, end, i)) {
+        if !one_word::all_used(words[i], part_mask(start, end, i, false)) {
             return false;
         }
         i += 1;
     }
     true
+}
+
+// Gives the n slots from `start` on the value `used`, as far as there are slots.
+pub fn paint(words: &mut [u64; 16], start: usize, n: usize, used: bool)
+    ensures { λ _. ⌜ PaintSays (now (words .entry)) start n used (now (words .exit)) ⌝ }
+{
+    paint_with(words, start, n, used, false)
+}
+
+// The same, with each mask read from the table of low masks.
+pub fn paint_by_table(words: &mut [u64; 16], start: usize, n: usize, used: bool)
+    ensures { λ _. ⌜ PaintSays (now (words .entry)) start n used (now (words .exit)) ⌝ }
+{
+    paint_with(words, start, n, used, true)
+}
+
+// Word by word; `table` tells where the masks come from, and changes nothing else.
+fn paint_with(words: &mut [u64; 16], start: usize, n: usize, used: bool, table: bool)
+    ensures { λ _. ⌜ PaintSays (now (words .entry)) start n used (now (words .exit)) ⌝ }
+{
+    if SLOTS <= start {
+        return;
+    }
+    let end = end_of(start, n);
+    let mut i = start / 64;
+    while i * 64 < end {
+        words[i] = painted(words[i], part_mask(start, end, i, table), used);
+        i += 1;
+    }
+}
+
+fn painted(word: u64, mask: u64, used: bool) -> u64
+    ensures { λ r. ⌜ r ≡ paintedIn word mask used ⌝ }
+{
+    if used {
+        return one_word::mark(word, mask);
+    }
+    one_word::unmark(word, mask)
+}
+
+// Where a run ends among the slots.
+fn end_of(start: usize, n: usize) -> usize
+    ensures { λ r. ⌜ r ≡ endIn start n ⌝ }
+{
+    if SLOTS <= start {
+        return SLOTS;
+    }
+    if SLOTS - start <= n {
+        return SLOTS;
+    }
+    start + n
+}
+
+// Ones at the places of word i that lie in the run from `start` to `end`.
+fn part_mask(start: usize, end: usize, i: usize, table: bool) -> u64
+    requires { ⌜ (i * 64 < end) × (end ≤ 1024) ⌝ }
+    ensures { λ r. ⌜ r ≡ partMask start end i ⌝ }
+{
+    let first = i * 64;
+    if start <= first {
+        return mask_from(0, end - first, table);
+    }
+    if end <= start {
+        return 0;
+    }
+    mask_from(start - first, end - start, table)
+}
+
+// A run's mask, from the table or by shifts.
+fn mask_from(start: usize, n: usize, table: bool) -> u64
+    ensures { λ r. ⌜ RunMaskSays start n r ⌝ }
+{
+    if table {
+        return one_word::table_mask(start, n);
+    }
+    one_word::run_mask(start, n)
 }

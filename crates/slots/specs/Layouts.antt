@@ -10,11 +10,11 @@ use lib.ListN.{length, getD}
 use lib.Pow.{pow-pos, pow-add}
 use lib.Seq.{ext-getD}
 use lib.Dec.{T, ltb, eqb}
-use borrow.Author.Tests.{lt-ltb, le-ltb}
+use borrow.Author.Tests.{lt-ltb, le-ltb, not-false}
 use Rattle.answers.specs.Faults.{finds-both, finds-eq}
 use Rattle.bits.specs.Range.{every, finds-every, same-test}
 use Rattle.bits.specs.Digits.{digit, number, digit-number, number-lt, number-digit, number-is, past-digit, zero-digit, equal-digits}
-use Rattle.slots.specs.Sets.{Slots, none}
+use Rattle.slots.specs.Sets.{Slots, none, allFree, finds-all-free}
 use Rattle.slots.specs.View.{View, made-alike}
 
 -- ---- the digits of one number
@@ -80,6 +80,15 @@ pub record Vacancy (L : View) : Type 1 where
   pub vacant : L .Map → Bool
   pub finds-vacant : (m : L .Map) → T (vacant m) ↔ Vacant m
   pub none-held : (m : L .Map) → L .Sound m → L .IsMap m → Vacant m ↔ ((s : ℕ) → s < 2 ^ L .k → L .slotOf m s ≡ false)
+
+-- so the test tells whether no slot is used
+pub vacant-is-free : (L : View) (none-in : Vacancy L) (m : L .Map) → L .Sound m → L .IsMap m → none-in .vacant m ≡ allFree (L .slotOf m) 0 (2 ^ L .k)
+vacant-is-free L none-in m sound held =
+    let found = finds-all-free (L .slotOf m) 0 (2 ^ L .k) in
+    let holds-none = none-in .none-held m sound held in
+    same-test (none-in .vacant m) (allFree (L .slotOf m) 0 (2 ^ L .k))
+    (λ t. found .1 (λ i h. holds-none .0 (none-in .finds-vacant m .0 t) i (omega (arith, h .1))))
+    (λ t. none-in .finds-vacant m .1 (holds-none .1 (λ i l. found .0 t i (zero-le, omega arith))))
 
 -- a number holds no slot exactly if it is 0
 abbrev pub noDigits : (k : ℕ) → Vacancy (digitsView k)
@@ -240,6 +249,32 @@ module _ (L : View) (none-in : Vacancy L) (j : ℕ) where
     pub same-under : madeUnder (slotUnder m) ≡ m
     same-under = λ i. record { parts = same-parts i; summary = same-summary i }
 
+    -- part i holds no slot exactly if summary bit i is 0
+    part-vacant : (i : ℕ) → i < 2 ^ j → (digit (m .summary) i ≡ false) ↔ none-in .Vacant (part m i)
+    part-vacant i l =
+        let mark = marked (part m i) (digit (m .summary) i) (sound .summary-right i l) in
+        let found = none-in .finds-vacant (part m i) in (
+          λ e. found .0 (rw (not-false (none-in .vacant (part m i)) (sym mark ∙ e)) tt),
+          λ vacant. mark ∙ ap not (same-test (none-in .vacant (part m i)) true (λ _. tt) (λ _. found .1 vacant)),
+        )
+
+    -- and the whole holds none exactly if the summary is 0
+    pub none-held-under : (m .summary ≡ 0) ↔ ((s : ℕ) → s < 2 ^ (j + L .k) → slotUnder m s ≡ false)
+    none-held-under = (
+      λ e s l.
+          let i = s / 2 ^ L .k in
+          let inner = in-part s l in
+          rw (lt-ltb s (2 ^ (j + L .k)) l)
+          (none-in .none-held (part m i) (sound .parts-sound i inner) (held .parts-maps i inner) .0
+          (part-vacant i inner .0 (ap (λ (n : ℕ). digit n i) e ∙ zero-digit i)) (s % 2 ^ L .k) (mod-lt s whole)),
+      λ none.
+          equal-digits (2 ^ j) (m .summary) 0 (held .summary-fits) (pow-pos (2 ^ j)) (λ i l.
+          part-vacant i l .1
+          (none-in .none-held (part m i) (sound .parts-sound i l) (held .parts-maps i l) .1
+          (λ s b. sym (slot-in i s l b) ∙ none (i * 2 ^ L .k + s) (inside i s l b)))
+          ∙ sym (zero-digit i)),
+    )
+
   abbrev pub underSummary : View
   underSummary = record {
     k = j + L .k;
@@ -255,4 +290,13 @@ module _ (L : View) (none-in : Vacancy L) (j : ℕ) where
     made-sound = made-sound-under;
     made-map = made-map-under;
     same = same-under;
+  }
+
+  -- which maps under a summary hold no slot: the next level needs to know it of this one
+  abbrev pub noneUnder : Vacancy underSummary
+  noneUnder = record {
+    Vacant = λ m. m .summary ≡ 0;
+    vacant = λ m. eqb (m .summary) 0;
+    finds-vacant = λ m. finds-eq (m .summary) 0;
+    none-held = none-held-under;
   }

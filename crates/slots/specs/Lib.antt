@@ -3,6 +3,7 @@ pub mod Lowest
 pub mod Calls
 pub mod Promises
 pub mod Search
+pub mod Tries
 pub mod Ways
 pub mod View
 pub mod Layouts

@@ -82,6 +82,15 @@ module _ (L : View) where
     unfolding changed
     changed-says = leaving-says (λ _. L .ofSlots (c .after)) m (answered L m c)
 
+    -- what is said decides what is left: on a refusal the very map, and else the map of the set that the call leaves
+    pub says-refused : (r : ℕ) → answered L m c ≡ refused r → changed L m c ≡ (refused r, m)
+    unfolding changed leaving
+    says-refused r said = rw said
+
+    pub says-accepted : (a : A) → answered L m c ≡ value a → changed L m c ≡ (value a, L .ofSlots (c .after))
+    unfolding changed leaving
+    says-accepted a said = rw said
+
     -- and the map handed back is the map handed in
     pub changed-refused : (r : ℕ) → changed L m c .0 ≡ refused r → changed L m c .1 ≡ m
     unfolding changed
@@ -96,19 +105,25 @@ module _ (L : View) where
     unfolding changed
     changed-map is-map = leaving-keeps _ m (L .IsMap) is-map (λ _. L .made-map (c .after)) (answered L m c)
 
+    -- by the test: an unsound map is refused by 1, whatever is asked of it, and a sound one answers as its set does
+    pub found-unsound : L .isSound m ≡ false → answered L m c ≡ refused 1
+    unfolding answered judged
+    found-unsound e = rw e
+
+    pub found-sound : L .isSound m ≡ true → answered L m c ≡ says c
+    unfolding answered says judged
+    found-sound e = rw e
+
     -- demand 2: a sound map answers as its set does
     pub sound-answers : L .Sound m → answered L m c ≡ says c
-    unfolding answered says judged
-    sound-answers sound = rw (same-test (L .isSound m) true (λ _. tt) (λ _. L .finds-sound m .1 sound))
+    sound-answers sound = found-sound (same-test (L .isSound m) true (λ _. tt) (λ _. L .finds-sound m .1 sound))
 
     -- so a sound map that is refused is handed back, and one that is not holds the set that the call leaves
     pub sound-refused : (r : ℕ) → L .Sound m → says c ≡ refused r → changed L m c ≡ (refused r, m)
-    unfolding changed leaving
-    sound-refused r sound said = rw (sound-answers sound ∙ said)
+    sound-refused r sound said = says-refused r (sound-answers sound ∙ said)
 
     pub sound-accepted : (a : A) → L .Sound m → says c ≡ value a → changed L m c ≡ (value a, L .ofSlots (c .after))
-    unfolding changed leaving
-    sound-accepted a sound said = rw (sound-answers sound ∙ said)
+    sound-accepted a sound said = says-accepted a (sound-answers sound ∙ said)
 
     -- and what is left is the map of the set that is left
     pub sound-changes : L .Sound m → L .IsMap m → changed L m c ≡ (says c, L .ofSlots (leaves (L .slotOf m) c))

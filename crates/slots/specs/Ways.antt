@@ -9,9 +9,9 @@ use borrow.Author.Tests.{eq-eqb, ne-eqb, lt-ltb, le-ltb, lt-leb, le-leb}
 use Rattle.answers.specs.Said.{value, refused, judged}
 use Rattle.answers.specs.Faults.{faults-decide, finds-eq}
 use Rattle.answers.specs.Answers.{at}
-use Rattle.slots.specs.Sets.{Slots}
+use Rattle.slots.specs.Sets.{Slots, allFree}
 use Rattle.slots.specs.Lowest.{lowest}
-use Rattle.slots.specs.Calls.{says, rangeChecks, takeCall}
+use Rattle.slots.specs.Calls.{says, rangeChecks, takeCall, nextFreeCall, getCall, emptyCall}
 use Rattle.slots.specs.Promises.{InRange, in-range, setFaults, finds-past}
 
 -- ---- the checks of a range
@@ -67,3 +67,22 @@ module _ (k : ℕ) (S : Slots) (n a : ℕ) where
         pub take-at : (o : ℕ) → lowest k S n a ≡ o → o < 2 ^ k → says (takeCall k S n a) ≡ value (at o)
         unfolding says takeCall judged
         take-at o e l = rw (e, some, lt-leb k a small, le-ltb (2 ^ k) n few, lt-leb (2 ^ k) o l)
+
+-- ---- the checks of the calls that only ask
+
+module _ (k : ℕ) (S : Slots) (i : ℕ) where
+  pub next-free-past : 2 ^ k ≤ i → says (nextFreeCall k S i) ≡ refused 4
+  unfolding says nextFreeCall judged
+  next-free-past l = rw (le-leb (2 ^ k) i l)
+
+  pub get-past : 2 ^ k ≤ i → says (getCall k S i) ≡ refused 4
+  unfolding says getCall judged
+  get-past l = rw (le-leb (2 ^ k) i l)
+
+  pub get-inside : i < 2 ^ k → says (getCall k S i) ≡ value (S i)
+  unfolding says getCall judged
+  get-inside l = rw (lt-leb (2 ^ k) i l)
+
+pub empty-says : (k : ℕ) (S : Slots) → says (emptyCall k S) ≡ value (allFree S 0 (2 ^ k))
+unfolding says emptyCall judged
+empty-says k S = refl

@@ -1,12 +1,12 @@
 // The word map: 64 slots in one word. Every word map is sound. A call takes the map by value and
-// hands it back with its answer; a refused call hands back the very map. Rests on `layout`.
+// hands it back with its answer; a refused call hands back the very map. Rests on `one_word`.
 use answers::Answer;
 use answers::NextFree;
 use answers::Refusal;
 use answers::Truth;
-use layout::one_word;
 ghost use Rattle.word.specs.Contracts.{NewEmptySays, NewFullSays, TakeSays, ClaimSays, FreeSays, SetSays, NextFreeSays, GetSays, EmptySays, UsedSays, CapacitySays};
-ghost use Rattle.word.specs.Inner.{RangeSays, refusedWith, doneWith, takenWith, NextFreeInSays, LowestStartSays, nextTry};
+ghost use Rattle.word.specs.Inner.{RangeSays, refusedWith, doneWith, takenWith, NextFreeInSays, LowestStartSays};
+ghost use Rattle.slots.specs.Tries.{nextTry};
 ghost use mathlib.Core.Path.{_≡_};
 ghost use Prim.Native.Nat.{_≤_, _<_};
 

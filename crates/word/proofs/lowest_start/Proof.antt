@@ -1,29 +1,31 @@
 -- `word::lowest_start` meets its contract. The loop's invariant: no start below the try fits, and the try is a multiple of 2 ^ a (`Trying`). The
--- measure is how far the try is from 96, which it never passes. Assumes nothing.
-use mathlib.Core.Path.{_≡_}
+-- measure is how far the try is from 64 + 2 ^ a, which it never passes. Assumes nothing.
+use mathlib.Core.Path.{_≡_, sym, ap, _∙_}
 use mathlib.Core.Logic.{⊎-elim}
-use Prim.Native.Nat.{ℕ, _-_}
+use Prim.Native.Nat.{ℕ, _+_, _-_, _^_}
 use native.Mathlib.Omega.{arith}
 use borrow.Author.Needs.{needs}
+use Rattle.answers.specs.Answers.{nextFreeSays}
 use Rattle.bits.specs.Digits.{digit}
 use Rattle.slots.specs.Sets.{AllFree}
 use Rattle.slots.specs.Search.{searched-past, searched-full, searched-found}
 use Rattle.slots.specs.Promises.{NextFree}
-use Rattle.word.proofs.Tries.{Trying, trying-first, next-found, next-none, says-none, says-found, run-free, run-not-free, try-later, try-on}
+use Rattle.slots.specs.Tries.{Trying, trying-first, next-found, next-none, says-none, says-found, run-free, run-not-free, try-later, try-on, small-power}
+use Rattle.word.proofs.Outcomes.{free-shown}
 use Rattle.word.proofs.lowest_start.Statement.{statement}
 use Rattle.word.proofs.lowest_start.Tie as tie
 
 abbrev Inv-loop : tie.InvT-loop
-Inv-loop bits n a start₀ start = Trying bits n a start
+Inv-loop bits n a start₀ start = Trying 6 (digit bits) n a start
 
 abbrev μ-loop : tie.MeasureT-loop
-μ-loop bits n a start₀ start = 96 - start
+μ-loop bits n a start₀ start = 64 + 2 ^ a - start
 
 loop-holds : tie.Need-loop-holds Inv-loop μ-loop
-loop-holds c = trying-first (c .args .bits) (c .args .n) (c .args .a) (c .pre .0) (c .pre .2)
+loop-holds c = trying-first 6 (digit (c .args .bits)) (c .args .n) (c .args .a) (c .pre .0)
 
 add-loop : tie.Need-add-loop Inv-loop μ-loop
-add-loop c = omega (arith, c .loop .inv .near)
+add-loop c = omega (arith, c .loop .inv .near, small-power 6 (c .before .args .a) (c .before .pre .2))
 
 next-free-in-requires : tie.Need-next-free-in-requires Inv-loop μ-loop
 next-free-in-requires c κs = search needs
@@ -42,9 +44,9 @@ returns c =
     let start = at-head .loop .start in
     let entry = at-head .before in
     let asked = entry .args in
-    says-none (asked .bits) (asked .n) (asked .a) (entry .pre .0) (entry .pre .2)
+    says-none 6 (digit (asked .bits)) (asked .n) (asked .a) (entry .pre .0)
     (searched-full 6 (digit (asked .bits)) (asked .n) (asked .a) (entry .pre .0) start (at-head .loop .inv .known)
-    (next-none (asked .bits) start (omega arith) (asking .next-free-in .result) (asking .next-free-in .ensures) _ (c .enum-told .given .1)))
+    (next-none 6 (digit (asked .bits)) start (omega arith) _ (ap nextFreeSays (sym (c .enum-told .given .1)) ∙ asking .next-free-in .ensures)))
 
 run-mask-requires : tie.Need-run-mask-requires Inv-loop μ-loop
 run-mask-requires c κs = search needs
@@ -62,9 +64,10 @@ returns-2 c =
     let start = at-head .loop .start in
     let entry = at-head .before in
     let asked = entry .args in
-    says-found (asked .bits) (asked .n) (asked .a) (entry .pre .0) (entry .pre .2) start
+    says-found 6 (digit (asked .bits)) (asked .n) (asked .a) (entry .pre .0) start
     (searched-found 6 (digit (asked .bits)) (asked .n) (asked .a) (entry .pre .0) start (at-head .loop .inv .known) (asking .before .loop-test .taken)
-    (run-free (asked .bits) start (asked .n) _ _ (asking .before .loop-test .taken) (masked .run-mask .ensures) (tested .all-free .ensures) (c .if2 .taken)))
+    (run-free (digit (asked .bits)) start (asked .n) _
+    (free-shown (asked .bits) _ start (asked .n) (asking .before .loop-test .taken) (masked .run-mask .ensures) _ (tested .all-free .ensures)) (c .if2 .taken)))
 
 -- ---- where the ways meet: the next free slot, and that the run at the try is not free
 
@@ -76,14 +79,15 @@ next-at : (c : tie.Joined1 Inv-loop μ-loop)
 next-at c =
     let asking = c .before .before .before .before in
     let at-head = asking .before .before in
-    next-found (at-head .before .args .bits) (at-head .loop .start) (omega arith) (asking .next-free-in .result) (asking .next-free-in .ensures) (free-at c) (c .before .before .next .given .1)
+    next-found 6 (digit (at-head .before .args .bits)) (at-head .loop .start) (omega arith) (free-at c) (ap nextFreeSays (sym (c .before .before .next .given .1)) ∙ asking .next-free-in .ensures)
 
 not-free-at : (c : tie.Joined1 Inv-loop μ-loop) → free-at c ≡ c .before .before .before .before .before .before .loop .start
     → AllFree (digit (c .before .before .before .before .before .before .before .args .bits)) (c .before .before .before .before .before .before .loop .start) (c .before .before .before .before .before .before .before .args .n) → ⊥
 not-free-at c =
     let test = c .before .before .before .before .before in
     let at-head = test .before in
-    ⊎-elim (λ w _. run-not-free (at-head .before .args .bits) (at-head .loop .start) (at-head .before .args .n) _ _ (test .loop-test .taken) (w .1 .ensures) (w .2 .ensures) (w .3 .left))
+    ⊎-elim (λ w _. run-not-free (digit (at-head .before .args .bits)) (at-head .loop .start) (at-head .before .args .n) _
+    (free-shown (at-head .before .args .bits) _ (at-head .loop .start) (at-head .before .args .n) (test .loop-test .taken) (w .1 .ensures) _ (w .2 .ensures)) (w .3 .left))
     (λ w same. absurd (w .left same)) (c .if1 .came)
 
 next-try-requires : tie.Need-next-try-requires Inv-loop μ-loop
@@ -99,7 +103,7 @@ loop-again c =
     let at-head = test .before in
     let entry = at-head .before in
     rw (c .next-try .ensures)
-    (try-on (entry .args .bits) (entry .args .n) (entry .args .a) (entry .pre .0) (entry .pre .2) (at-head .loop .start) (test .loop-test .taken) (free-at joined) (next-at joined) (at-head .loop .inv) (not-free-at joined))
+    (try-on 6 (digit (entry .args .bits)) (entry .args .n) (entry .args .a) (entry .pre .0) (at-head .loop .start) (test .loop-test .taken) (free-at joined) (next-at joined) (at-head .loop .inv) (not-free-at joined))
 
 loop-less : tie.Need-loop-less Inv-loop μ-loop
 loop-less c =
@@ -107,8 +111,8 @@ loop-less c =
     let test = joined .before .before .before .before .before in
     let at-head = test .before in
     let entry = at-head .before in
-    let later = try-later (entry .args .bits) (entry .args .n) (entry .args .a) (entry .pre .0) (entry .pre .2) (at-head .loop .start) (test .loop-test .taken) (free-at joined) (next-at joined) in
-    rw (c .next-try .ensures) (omega (arith, later))
+    let later = try-later 6 (digit (entry .args .bits)) (entry .args .n) (entry .args .a) (entry .pre .0) (at-head .loop .start) (test .loop-test .taken) (free-at joined) (next-at joined) in
+    rw (c .next-try .ensures) (omega (arith, later, at-head .loop .inv .near))
 
 -- the tries are past the end
 returns-3 : tie.Need-returns-3 Inv-loop μ-loop
@@ -116,7 +120,7 @@ returns-3 c =
     let at-head = c .before in
     let entry = at-head .before in
     let asked = entry .args in
-    says-none (asked .bits) (asked .n) (asked .a) (entry .pre .0) (entry .pre .2)
+    says-none 6 (digit (asked .bits)) (asked .n) (asked .a) (entry .pre .0)
     (searched-past 6 (digit (asked .bits)) (asked .n) (asked .a) (entry .pre .0) (at-head .loop .start) (at-head .loop .inv .known) (c .loop-test .left))
 
 pub lowest-start-spec : {M : Type 1} → statement M

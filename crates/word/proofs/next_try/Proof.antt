@@ -4,8 +4,7 @@ use native.Mathlib.Nat.{div-le-self}
 use native.Mathlib.Omega.{arith}
 use borrow.Author.Needs.{needs}
 use borrow.Author.Tests.{eq-eqb, ne-eqb}
-use Rattle.word.specs.Inner.{nextTry}
-use Rattle.word.proofs.Tries.{next-by-shifts}
+use Rattle.slots.specs.Tries.{nextTry, next-by-shifts, small-power}
 use Rattle.word.proofs.next_try.Statement.{statement}
 use Rattle.word.proofs.next_try.Tie as tie
 
@@ -22,7 +21,7 @@ returns : tie.Need-returns
 unfolding nextTry
 returns c =
     let asked = c .before .args in
-    rw (eq-eqb (asked .free) (asked .start) (c .if1 .taken)) (next-by-shifts (asked .a) (asked .start) (omega arith) (omega arith))
+    rw (eq-eqb (asked .free) (asked .start) (c .if1 .taken)) (next-by-shifts 64 (asked .a) (asked .start) (omega (arith, small-power 6 (asked .a) (omega arith))))
 
 sub-result : tie.Need-sub-result
 sub-result c = search needs
@@ -40,7 +39,7 @@ returns-2 : tie.Need-returns-2
 unfolding nextTry
 returns-2 c =
     let asked = c .before .args in
-    rw (ne-eqb (asked .free) (asked .start) (c .if1 .left)) (next-by-shifts (asked .a) (asked .free - 1) (omega arith) (omega arith))
+    rw (ne-eqb (asked .free) (asked .start) (c .if1 .left)) (next-by-shifts 64 (asked .a) (asked .free - 1) (omega (arith, small-power 6 (asked .a) (omega arith))))
 
 pub next-try-spec : {M : Type 1} → statement M
 next-try-spec = tie.close (tie.spec shr-result add-result shl-result returns sub-result shr-result-2 add-result-2 shl-result-2 returns-2)

@@ -6,7 +6,7 @@ use lib.ListN.{getD}
 use native.Mathlib.Omega.{arith}
 use borrow.Author.Needs.{needs}
 use borrow.Author.Tests.{not-true, not-false}
-use Rattle.layout.specs.OneWord.{usedIn}
+use Rattle.one_word.specs.OneWord.{usedIn}
 use Rattle.layout.specs.Painting.{slotIn}
 use Rattle.layout.proofs.Words.{UsedTo, used-none, used-on, run-not-used, run-free-at, run-all-used, past-free}
 use Rattle.layout.proofs.sixteen.all_used.Statement.{statement}

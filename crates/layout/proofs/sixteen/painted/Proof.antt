@@ -2,7 +2,7 @@
 use mathlib.Core.Path.{sym, ap, _∙_}
 use mathlib.Core.Bool.{Bool}
 use borrow.Author.Needs.{needs}
-use Rattle.layout.specs.OneWord.{paintedIn}
+use Rattle.one_word.specs.OneWord.{paintedIn}
 use Rattle.layout.proofs.sixteen.painted.Statement.{statement}
 use Rattle.layout.proofs.sixteen.painted.Tie as tie
 

@@ -9,35 +9,35 @@ use Rattle.layout.proofs.sixteen.part_mask.Tie as tie
 mul-first : tie.Need-mul-first
 mul-first c = search needs
 
-sub-run-mask : tie.Need-sub-run-mask
-sub-run-mask c = search needs
+sub-mask-from : tie.Need-sub-mask-from
+sub-mask-from c = search needs
 
-run-mask-requires : tie.Need-run-mask-requires
-run-mask-requires c κs = search needs
+mask-from-requires : tie.Need-mask-from-requires
+mask-from-requires c κs = search needs
 
 returns : tie.Need-returns
 returns c =
     let asked = c .before .before .args in
-    c .run-mask .ensures ∙ part-to-end (asked .start) (asked .end) (asked .i) (omega arith) (omega arith)
+    c .mask-from .ensures ∙ part-to-end (asked .start) (asked .end) (asked .i) (omega arith) (omega arith)
 
 returns-2 : tie.Need-returns-2
 returns-2 c =
     let asked = c .before .before .args in
     part-none (asked .start) (asked .end) (asked .i) (c .if2 .taken)
 
-sub-run-mask-2 : tie.Need-sub-run-mask-2
-sub-run-mask-2 c = search needs
+sub-mask-from-2 : tie.Need-sub-mask-from-2
+sub-mask-from-2 c = search needs
 
-sub-run-mask-3 : tie.Need-sub-run-mask-3
-sub-run-mask-3 c = search needs
+sub-mask-from-3 : tie.Need-sub-mask-from-3
+sub-mask-from-3 c = search needs
 
-run-mask-requires-2 : tie.Need-run-mask-requires-2
-run-mask-requires-2 c κs = search needs
+mask-from-requires-2 : tie.Need-mask-from-requires-2
+mask-from-requires-2 c κs = search needs
 
 returns-3 : tie.Need-returns-3
 returns-3 c =
     let asked = c .before .before .before .args in
-    c .run-mask2 .ensures ∙ part-inside (asked .start) (asked .end) (asked .i) (omega arith) (omega arith)
+    c .mask-from2 .ensures ∙ part-inside (asked .start) (asked .end) (asked .i) (omega arith) (omega arith)
 
 pub part-mask-spec : {M : Type 1} → statement M
-part-mask-spec = tie.close (tie.spec mul-first sub-run-mask run-mask-requires returns returns-2 sub-run-mask-2 sub-run-mask-3 run-mask-requires-2 returns-3)
+part-mask-spec = tie.close (tie.spec mul-first sub-mask-from mask-from-requires returns returns-2 sub-mask-from-2 sub-mask-from-3 mask-from-requires-2 returns-3)

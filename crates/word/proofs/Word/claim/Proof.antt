@@ -4,8 +4,9 @@ use mathlib.Core.Bool.{true, not}
 use borrow.Author.Needs.{needs}
 use Rattle.answers.specs.Said.{judged-found, judged-passed}
 use Rattle.answers.specs.Answers.{ok}
-use Rattle.slots.specs.Calls.{says, claimCall}
-use Rattle.word.proofs.Outcomes.{refusing, finishing, range-refused, range-passed, free-shown, painted-word}
+use Rattle.slots.specs.Calls.{says, rangeChecks, claimCall}
+use Rattle.answers.proofs.Judging.{refused-first, passed-on}
+use Rattle.word.proofs.Outcomes.{refusing, finishing, ends-inside, free-shown, painted-word}
 use Rattle.word.proofs.Word.claim.Statement.{statement}
 use Rattle.word.proofs.Word.claim.Tie as tie
 
@@ -25,7 +26,7 @@ returns c =
     let judging = known .before .before in
     let asked = judging .before .args in
     refusing (asked .self) _ _ _ (c .refused .ensures)
-    (range-refused (asked .start) (asked .n) (judging .judged-range .result) (judging .judged-range .ensures) _ ok _ (known .range .given .1))
+    (refused-first (rangeChecks 6 (asked .start) (asked .n)) (judging .judged-range .result) (judging .judged-range .ensures) _ ok _ (known .range .given .1))
 
 table-mask-requires : tie.Need-table-mask-requires
 table-mask-requires c κs = search needs
@@ -41,14 +42,16 @@ unfolding says claimCall
 returns-2 c =
     let tested = c .before .before in
     let masked = tested .before in
-    let passed = masked .before in
-    let judging = passed .before in
+    let passing = masked .before in
+    let judging = passing .before in
     let asked = judging .before .args in
+    let checks = rangeChecks 6 (asked .start) (asked .n) in
     let range = judging .judged-range .result in
     let told = judging .judged-range .ensures in
-    let shown = free-shown (asked .start) (asked .n) range told (passed .match .keys2) (asked .self .bits) _ (masked .table-mask .ensures) _ (tested .all-free .ensures) in
+    let ends = ends-inside (asked .start) (asked .n) range told (passing .match .keys2) in
+    let shown = free-shown (asked .self .bits) _ (asked .start) (asked .n) ends (masked .table-mask .ensures) _ (tested .all-free .ensures) in
     refusing (asked .self) _ _ _ (c .refused2 .ensures)
-    (range-passed (asked .start) (asked .n) range told (passed .match .keys2) _ ok ∙ judged-found 6 _ ok (ap not (sym shown) ∙ c .before .if1 .taken))
+    (passed-on checks range told (passing .match .keys2) _ ok ∙ judged-found 6 _ ok (ap not (sym shown) ∙ c .before .if1 .taken))
 
 mark-requires : tie.Need-mark-requires
 mark-requires c κs = search needs
@@ -62,15 +65,17 @@ returns-3 c =
     let marked = c .before in
     let tested = marked .before .before in
     let masked = tested .before in
-    let passed = masked .before in
-    let judging = passed .before in
+    let passing = masked .before in
+    let judging = passing .before in
     let asked = judging .before .args in
+    let checks = rangeChecks 6 (asked .start) (asked .n) in
     let range = judging .judged-range .result in
     let told = judging .judged-range .ensures in
+    let ends = ends-inside (asked .start) (asked .n) range told (passing .match .keys2) in
     let run = masked .table-mask .ensures in
-    let shown = free-shown (asked .start) (asked .n) range told (passed .match .keys2) (asked .self .bits) _ run _ (tested .all-free .ensures) in
+    let shown = free-shown (asked .self .bits) _ (asked .start) (asked .n) ends run _ (tested .all-free .ensures) in
     finishing (asked .self) _ _ _ (c .done .ensures)
-    (range-passed (asked .start) (asked .n) range told (passed .match .keys2) _ ok ∙ judged-passed 6 _ ok (ap not (sym shown) ∙ marked .before .if1 .left))
+    (passed-on checks range told (passing .match .keys2) _ ok ∙ judged-passed 6 _ ok (ap not (sym shown) ∙ marked .before .if1 .left))
     (painted-word (asked .self .bits) _ _ (asked .start) (asked .n) true run (marked .mark .ensures))
 
 pub claim-spec : {M : Type 1} → statement M

@@ -7,9 +7,10 @@ use Rattle.answers.specs.Said.{judged}
 use Rattle.answers.specs.Answers.{ok}
 use Rattle.bits.specs.Digits.{digit}
 use Rattle.slots.specs.Sets.{painted}
-use Rattle.slots.specs.Calls.{says, setCall}
+use Rattle.slots.specs.Calls.{says, rangeChecks, setCall}
 use Rattle.word.specs.Layout.{ofSlots}
-use Rattle.word.proofs.Outcomes.{refusing, finishing, range-refused, range-passed, painted-word}
+use Rattle.answers.proofs.Judging.{refused-first, passed-on}
+use Rattle.word.proofs.Outcomes.{refusing, finishing, painted-word}
 use Rattle.word.proofs.Word.set.Statement.{statement}
 use Rattle.word.proofs.Word.set.Tie as tie
 
@@ -29,7 +30,7 @@ returns c =
     let judging = known .before .before in
     let asked = judging .before .args in
     refusing (asked .self) _ _ _ (c .refused .ensures)
-    (range-refused (asked .start) (asked .n) (judging .judged-range .result) (judging .judged-range .ensures) [] ok _ (known .range .given .1))
+    (refused-first (rangeChecks 6 (asked .start) (asked .n)) (judging .judged-range .result) (judging .judged-range .ensures) [] ok _ (known .range .given .1))
 
 table-mask-requires : tie.Need-table-mask-requires
 table-mask-requires c κs = search needs
@@ -49,7 +50,7 @@ returns-2 c =
     let judging = passed .before in
     let asked = judging .before .args in
     finishing (asked .self) _ _ _ (c .done .ensures)
-    (range-passed (asked .start) (asked .n) (judging .judged-range .result) (judging .judged-range .ensures) (passed .match .keys2) [] ok)
+    (passed-on (rangeChecks 6 (asked .start) (asked .n)) (judging .judged-range .result) (judging .judged-range .ensures) (passed .match .keys2) [] ok)
     (painted-word (asked .self .bits) _ _ (asked .start) (asked .n) true (masked .table-mask .ensures) (marked .mark .ensures)
     ∙ ap (λ (v : Bool). ofSlots (painted (digit (asked .self .bits)) (asked .start) (asked .n) v)) (sym (marked .before .if1 .taken)))
 
@@ -68,7 +69,7 @@ returns-3 c =
     let judging = passed .before in
     let asked = judging .before .args in
     finishing (asked .self) _ _ _ (c .done2 .ensures)
-    (range-passed (asked .start) (asked .n) (judging .judged-range .result) (judging .judged-range .ensures) (passed .match .keys2) [] ok)
+    (passed-on (rangeChecks 6 (asked .start) (asked .n)) (judging .judged-range .result) (judging .judged-range .ensures) (passed .match .keys2) [] ok)
     (painted-word (asked .self .bits) _ _ (asked .start) (asked .n) false (masked .table-mask .ensures) (marked .unmark .ensures)
     ∙ ap (λ (v : Bool). ofSlots (painted (digit (asked .self .bits)) (asked .start) (asked .n) v)) (sym (marked .before .if1 .left)))
 

@@ -5,10 +5,10 @@ use native.Mathlib.Omega.{arith}
 use borrow.Author.Needs.{needs}
 use Rattle.answers.specs.Answers.{nextFreeSays}
 use Rattle.slots.specs.Ways.{take-empty, take-too-aligned, take-too-many, take-no-room, take-at}
+use Rattle.slots.specs.Tries.{room-none, room-found}
 use Rattle.slots.specs.Promises.{take-after}
 use Rattle.word.specs.Layout.{slotOf, ofSlots}
 use Rattle.word.proofs.Outcomes.{refusing, granting, painted-word}
-use Rattle.word.proofs.Tries.{room-none, room-found}
 use Rattle.word.proofs.Word.take.Statement.{statement}
 use Rattle.word.proofs.Word.take.Tie as tie
 
@@ -55,7 +55,7 @@ returns-4 c =
     let asked = searched .before .before .before .before .args in
     refusing (asked .self) _ _ _ (c .refused4 .ensures)
     (take-no-room 6 (slotOf (asked .self)) (asked .n) (asked .a) (omega arith) (omega arith) (omega arith)
-    (room-none _ _ (ap nextFreeSays (sym (told .enum-told .given .1)) ∙ searched .lowest-start .ensures)))
+    (room-none 6 _ _ (ap nextFreeSays (sym (told .enum-told .given .1)) ∙ searched .lowest-start .ensures)))
 
 run-mask-requires : tie.Need-run-mask-requires
 run-mask-requires c κs = search needs
@@ -74,7 +74,7 @@ returns-5 c =
     let searched = masked .before .before .before .before in
     let asked = searched .before .before .before .before .args in
     let start = found .0 .0 in
-    let room = room-found _ start (ap nextFreeSays (sym (found .1)) ∙ searched .lowest-start .ensures) in
+    let room = room-found 6 _ start (ap nextFreeSays (sym (found .1)) ∙ searched .lowest-start .ensures) in
     let said = take-at 6 (slotOf (asked .self)) (asked .n) (asked .a) (omega arith) (omega arith) (omega arith) start (room .0) (omega (arith, room .0, room .1)) in
     granting (asked .self) _ _ start _ (c .taken .ensures) said
     (painted-word (asked .self .bits) _ _ start (asked .n) true (masked .run-mask .ensures) (marked .mark .ensures)

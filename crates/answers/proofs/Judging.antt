@@ -1,0 +1,31 @@
+-- What is known where some checks have been judged by a call of their own: a refusal is the refusal of the whole, and where there is none the checks
+-- that follow decide. Assumes nothing.
+use mathlib.Core.Path.{_≡_, refl, sym, ap, _∙_}
+use mathlib.Core.Logic.{⊎-elim}
+use mathlib.Core.List.{List, [], _∷_, _++_}
+use native.Mathlib.Omega.{arith}
+use types.Run.{OneOf}
+use denote.Enum.Declared.{tagOf}
+use Rattle.answers.specs.Said.{value, refused, Check, judged, judged-first, judged-then}
+use Rattle.answers.specs.Refusals.{numberOf}
+use Rattle.answers.specs.Answers.{Reply, at, ok, answerSays}
+use Rattle.answers.specs.declared.Refusal.{Refusal}
+use Rattle.answers.specs.declared.Answer.{Answer}
+use Rattle.answers.specs.declared.Answer.the-variants.{At, Done, Refused}
+use Rattle.answers.proofs.Answer.{the-type}
+
+not-refused : (answer : Answer) → OneOf (0 ∷ 1 ∷ []) (tagOf the-type answer) → (x : Reply) × (answerSays answer ≡ value x)
+not-refused (At n) h = (at n, refl)
+not-refused Done h = (ok, refl)
+not-refused (Refused why) h = absurd (⊎-elim (λ e. omega (arith, e)) (λ e. omega (arith, e)) h)
+
+module _ (cs : List Check) (answer : Answer) (told : answerSays answer ≡ judged cs ok) where
+  pub refused-first : {A : Type 0} (ds : List Check) (x : A) (why : Refusal) → answer ≡ Refused why → judged (cs ++ ds) x ≡ refused (numberOf why)
+  refused-first ds x why e = judged-first cs ds ok x (numberOf why) (sym told ∙ ap answerSays e)
+
+  module _ (kept : OneOf (0 ∷ 1 ∷ []) (tagOf the-type answer)) where
+    pub passed : (x : Reply) × (judged cs ok ≡ value x)
+    passed = let said = not-refused answer kept in (said .0, sym told ∙ said .1)
+
+    pub passed-on : {A : Type 0} (ds : List Check) (x : A) → judged (cs ++ ds) x ≡ judged ds x
+    passed-on ds x = judged-then cs ds ok (passed .0) x (passed .1)

@@ -1,0 +1,125 @@
+// The tree map: the map by its name, the call, its answer, and the runs of slots that are then used,
+// with the summary. A refused tree is shown too, since its words and its summary can always be read.
+use crate::show;
+use layout::sixteen;
+use tree::Changed;
+use tree::Tree;
+
+// One slot further: where a run of used slots begins or ends, that is printed. Answers whether the
+// slot is used; `last` is the slot before it, and `inside` whether that one is.
+fn run_edge(slot: usize, last: usize, inside: bool, used: bool) -> bool {
+    if used {
+        if !inside {
+            show::text(b" ");
+            show::number(slot as u64);
+        }
+        return true;
+    }
+    if inside {
+        show::text(b"..");
+        show::number(last as u64);
+    }
+    false
+}
+
+// The runs of used slots, first and last slot of each; none is said as such.
+fn runs(words: [u64; 16]) {
+    let mut slot = 0;
+    let mut last = 0;
+    let mut inside = false;
+    while slot < 1025 {
+        let used = sixteen::get(&words, slot);
+        inside = run_edge(slot, last, inside, used);
+        last = slot;
+        slot += 1;
+    }
+}
+
+fn drawn(map: Tree) {
+    let words = map.words();
+    show::text(b", leaves");
+    if sixteen::count(&words) == 0 {
+        show::text(b" none");
+    }
+    runs(words);
+    show::text(b" under summary ");
+    show::number(map.summary() as u64);
+    show::text(b"\n");
+}
+
+fn left(changed: Changed) {
+    let answer = changed.answer;
+    show::answer(answer);
+    drawn(changed.map);
+}
+
+pub fn take(name: &[u8], map: Tree, n: usize, a: usize) {
+    show::text(name);
+    show::asked(b": take ", n as u64, b" at a multiple of 2^", a as u64);
+    left(map.take(n, a));
+}
+
+pub fn take_in_place(name: &[u8], map: Tree, n: usize, a: usize) {
+    show::text(name);
+    show::asked(
+        b": take in place ",
+        n as u64,
+        b" at a multiple of 2^",
+        a as u64,
+    );
+    left(in_place::take_lent(map, n, a));
+}
+
+pub fn claim(name: &[u8], map: Tree, start: usize, n: usize) {
+    show::text(name);
+    show::asked(b": claim from ", start as u64, b", ", n as u64);
+    left(map.claim(start, n));
+}
+
+pub fn free(name: &[u8], map: Tree, start: usize, n: usize) {
+    show::text(name);
+    show::asked(b": free from ", start as u64, b", ", n as u64);
+    left(map.free(start, n));
+}
+
+pub fn free_in_place(name: &[u8], map: Tree, start: usize, n: usize) {
+    show::text(name);
+    show::asked(b": free in place from ", start as u64, b", ", n as u64);
+    left(in_place::free_lent(map, start, n));
+}
+
+pub fn set(name: &[u8], map: Tree, start: usize, n: usize, used: bool) {
+    show::text(name);
+    if used {
+        show::asked(b": set used from ", start as u64, b", ", n as u64);
+    } else {
+        show::asked(b": set free from ", start as u64, b", ", n as u64);
+    }
+    left(map.set(start, n, used));
+}
+
+pub fn next_free(name: &[u8], map: Tree, start: usize) {
+    show::text(name);
+    show::text(b": next free from ");
+    show::number(start as u64);
+    show::next_free_answer(map.next_free(start));
+}
+
+pub fn get(name: &[u8], map: Tree, slot: usize) {
+    show::text(name);
+    show::text(b": is used ");
+    show::number(slot as u64);
+    show::truth_answer(map.get(slot));
+}
+
+pub fn counts(name: &[u8], map: Tree) {
+    show::text(name);
+    show::text(b": empty");
+    show::truth_answer(map.empty());
+    show::text(name);
+    show::text(b": used");
+    show::number_answer(map.used());
+    show::text(name);
+    show::text(b": capacity");
+    show::value(map.capacity() as u64);
+}

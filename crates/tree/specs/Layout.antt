@@ -1,0 +1,48 @@
+-- The view of the tree map: sixteen words of 64 slots under a summary. Rests on the construction of `slots` and on the sixteen words of `layout`.
+use mathlib.Core.Path.{_≡_, refl}
+use mathlib.Core.Logic.{_↔_}
+use mathlib.Core.Bool.{true}
+use mathlib.Core.List.{List}
+use Prim.Native.Nat.{ℕ, _<_}
+use lib.ListN.{getD}
+use Rattle.bits.specs.Digits.{digit, number}
+use Rattle.slots.specs.Sets.{Slots}
+use Rattle.slots.specs.View.{View}
+use Rattle.slots.specs.Layouts.{Summed, digitsView, noDigits, underSummary, carried}
+use Rattle.layout.specs.Painting.{slotIn}
+use Rattle.tree.specs.declared.Tree.{Tree}
+
+-- the words are the parts
+abbrev pub parted : Tree → Summed ℕ
+parted t = record { parts = t .words; summary = t .summary }
+
+abbrev pub treeOf : List ℕ → ℕ → Tree
+treeOf words summary = record { words = words; summary = summary }
+
+abbrev pub treeView : View
+treeView = carried (underSummary (digitsView 6) (noDigits 6) 4) Tree parted (λ m. treeOf (m .parts) (m .summary)) (λ m. refl) (λ t. refl)
+
+-- slot s is bit s % 64 of word s / 64
+abbrev pub slotOf : Tree → Slots
+slotOf t = slotIn (t .words)
+
+abbrev pub ofSlots : Slots → Tree
+ofSlots S = treeView .ofSlots S
+
+-- summary bit i is 1 exactly if word i is not 0
+abbrev pub Sound : Tree → Type 0
+Sound t = treeView .Sound t
+
+-- sixteen words below 2 ^ 64, and a summary below 2 ^ 16
+abbrev pub IsTree : Tree → Type 0
+IsTree t = treeView .IsMap t
+
+-- ---- what they mean
+
+pub slot-of-view : (t : Tree) → treeView .slotOf t ≡ slotOf t
+unfolding slotIn number
+slot-of-view t = refl
+
+pub sound-means : (t : Tree) → Sound t ↔ ((i : ℕ) → i < 16 → (digit (t .summary) i ≡ true) ↔ (getD (t .words) i 0 ≡ 0 → ⊥))
+unfolding number
+sound-means t = (λ sound. sound .summary-right, λ right. record { parts-sound = λ i l. tt; summary-right = right })

@@ -1,0 +1,301 @@
+// The tree map: 1,024 slots in sixteen words, under a summary. A call takes the map by value and
+// hands it back with its answer; a refused call hands back the very map. A tree is sound when summary
+// bit i is 1 exactly if word i is not 0: every call but capacity refuses any other with 1, before all
+// else. Rests on `layout`.
+
+use answers::Answer;
+use answers::NextFree;
+use answers::Number;
+use answers::Refusal;
+use answers::Truth;
+use layout::sixteen;
+ghost use Rattle.tree.specs.Contracts.{NewEmptySays, NewFullSays, WithSummarySays, WordsSays, SummarySays, TakeSays, ClaimSays, FreeSays, SetSays, NextFreeSays, GetSays, EmptySays, UsedSays, CapacitySays};
+ghost use Rattle.tree.specs.Inner.{SoundSays, RangeSays, refusedWith, doneWith, takenWith, NextFreeInSays, LowestStartSays};
+ghost use Rattle.slots.specs.Tries.{nextTry};
+ghost use mathlib.Core.Path.{_≡_};
+ghost use Prim.Native.Nat.{_≤_, _<_};
+
+const CAPACITY: usize = 1024;
+
+// Slot s is bit s % 64 of word s / 64; 1 means used.
+pub struct Tree {
+    words: [u64; 16],
+    summary: u16,
+}
+
+// What a change comes to, and the map it leaves.
+pub struct Changed {
+    pub answer: Answer,
+    pub map: Tree,
+}
+
+impl Tree {
+    // The map with no slot used.
+    pub fn new_empty() -> Tree
+        ensures { λ r. ⌜ NewEmptySays r ⌝ }
+    {
+        Tree {
+            words: [0; 16],
+            summary: 0,
+        }
+    }
+
+    // The map with each slot used.
+    pub fn new_full() -> Tree
+        ensures { λ r. ⌜ NewFullSays r ⌝ }
+    {
+        Tree {
+            words: [u64::MAX; 16],
+            summary: u16::MAX,
+        }
+    }
+
+    // The same words under another summary, sound or not: what comes from outside can be either.
+    pub fn with_summary(self, summary: u16) -> Tree
+        ensures { λ r. ⌜ WithSummarySays self summary r ⌝ }
+    {
+        let words = self.words;
+        Tree { words, summary }
+    }
+
+    // The words, of every tree.
+    pub fn words(self) -> [u64; 16]
+        ensures { λ r. ⌜ WordsSays self r ⌝ }
+    {
+        self.words
+    }
+
+    // The summary, of every tree.
+    pub fn summary(self) -> u16
+        ensures { λ r. ⌜ SummarySays self r ⌝ }
+    {
+        self.summary
+    }
+
+    // Takes n slots at the lowest free start that is a multiple of 2^a.
+    pub fn take(self, n: usize, a: usize) -> Changed
+        ensures { λ r. ⌜ TakeSays self n a r ⌝ }
+    {
+        if !sound(&self.words, self.summary) {
+            return refused(self, Refusal::Unsound);
+        }
+        if n == 0 {
+            return refused(self, Refusal::NoEntries);
+        }
+        if 10 <= a {
+            return refused(self, Refusal::AlignmentTooGreat);
+        }
+        if CAPACITY < n {
+            return refused(self, Refusal::PastTheEnd);
+        }
+        let found = lowest_start(&self.words, n, a);
+        let NextFree::At(start) = found else {
+            return refused(self, Refusal::NoRoom);
+        };
+        let mut marked = self.words;
+        sixteen::paint(&mut marked, start, n, true);
+        let summary = sixteen::touched(&marked, self.summary, start, n);
+        taken(start, marked, summary)
+    }
+
+    // Claims the n slots from `start` on, each of which must be free.
+    pub fn claim(self, start: usize, n: usize) -> Changed
+        ensures { λ r. ⌜ ClaimSays self start n r ⌝ }
+    {
+        let range = judged_range(&self.words, self.summary, start, n);
+        if let Answer::Refused(why) = range {
+            return refused(self, why);
+        }
+        if !sixteen::all_free(&self.words, start, n) {
+            return refused(self, Refusal::AlreadyUsed);
+        }
+        let mut claimed = self.words;
+        sixteen::paint_by_table(&mut claimed, start, n, true);
+        let summary = sixteen::touched(&claimed, self.summary, start, n);
+        done(claimed, summary)
+    }
+
+    // Frees the n slots from `start` on, each of which must be used.
+    pub fn free(self, start: usize, n: usize) -> Changed
+        ensures { λ r. ⌜ FreeSays self start n r ⌝ }
+    {
+        let range = judged_range(&self.words, self.summary, start, n);
+        if let Answer::Refused(why) = range {
+            return refused(self, why);
+        }
+        if !sixteen::all_used(&self.words, start, n) {
+            return refused(self, Refusal::AlreadyFree);
+        }
+        let mut freed = self.words;
+        sixteen::paint(&mut freed, start, n, false);
+        let summary = sixteen::touched(&freed, self.summary, start, n);
+        done(freed, summary)
+    }
+
+    // Gives the n slots from `start` on the value `used`, whatever they held.
+    pub fn set(self, start: usize, n: usize, used: bool) -> Changed
+        ensures { λ r. ⌜ SetSays self start n used r ⌝ }
+    {
+        let range = judged_range(&self.words, self.summary, start, n);
+        if let Answer::Refused(why) = range {
+            return refused(self, why);
+        }
+        let mut given = self.words;
+        sixteen::paint_by_table(&mut given, start, n, used);
+        let summary = sixteen::touched(&given, self.summary, start, n);
+        done(given, summary)
+    }
+
+    // The least free slot from `start` on.
+    pub fn next_free(self, start: usize) -> NextFree
+        ensures { λ r. ⌜ NextFreeSays self start r ⌝ }
+    {
+        if !sound(&self.words, self.summary) {
+            return NextFree::Refused(Refusal::Unsound);
+        }
+        if CAPACITY <= start {
+            return NextFree::Refused(Refusal::PastTheEnd);
+        }
+        next_free_in(&self.words, start)
+    }
+
+    // Whether the slot is used.
+    pub fn get(self, slot: usize) -> Truth
+        ensures { λ r. ⌜ GetSays self slot r ⌝ }
+    {
+        if !sound(&self.words, self.summary) {
+            return Truth::Refused(Refusal::Unsound);
+        }
+        if CAPACITY <= slot {
+            return Truth::Refused(Refusal::PastTheEnd);
+        }
+        Truth::Is(sixteen::get(&self.words, slot))
+    }
+
+    // Whether no slot is used: the summary alone tells it of a sound map.
+    pub fn empty(self) -> Truth
+        ensures { λ r. ⌜ EmptySays self r ⌝ }
+    {
+        if !sound(&self.words, self.summary) {
+            return Truth::Refused(Refusal::Unsound);
+        }
+        Truth::Is(self.summary == 0)
+    }
+
+    // How many slots are used.
+    pub fn used(self) -> Number
+        ensures { λ r. ⌜ UsedSays self r ⌝ }
+    {
+        if !sound(&self.words, self.summary) {
+            return Number::Refused(Refusal::Unsound);
+        }
+        Number::Is(sixteen::count(&self.words) as u64)
+    }
+
+    // How many slots there are, on every tree.
+    pub fn capacity(self) -> usize
+        ensures { λ r. ⌜ CapacitySays r ⌝ }
+    {
+        CAPACITY
+    }
+}
+
+// Whether the summary is that of the words.
+fn sound(words: &[u64; 16], summary: u16) -> bool
+    ensures { λ r. ⌜ SoundSays (now (words .entry)) summary r ⌝ }
+{
+    sixteen::summary(words) == summary
+}
+
+// Done where the map is sound and the n slots from `start` on are a range of it, and else the
+// refusal. No sum is made that could wrap.
+fn judged_range(words: &[u64; 16], summary: u16, start: usize, n: usize) -> Answer
+    ensures { λ r. ⌜ RangeSays (now (words .entry)) summary start n r ⌝ }
+{
+    if !sound(words, summary) {
+        return Answer::Refused(Refusal::Unsound);
+    }
+    if n == 0 {
+        return Answer::Refused(Refusal::NoEntries);
+    }
+    if CAPACITY < start {
+        return Answer::Refused(Refusal::PastTheEnd);
+    }
+    if CAPACITY - start < n {
+        return Answer::Refused(Refusal::PastTheEnd);
+    }
+    Answer::Done
+}
+
+// The very map, with the refusal.
+fn refused(map: Tree, why: Refusal) -> Changed
+    ensures { λ r. ⌜ r ≡ refusedWith map why ⌝ }
+{
+    Changed {
+        answer: Answer::Refused(why),
+        map,
+    }
+}
+
+fn done(words: [u64; 16], summary: u16) -> Changed
+    ensures { λ r. ⌜ r ≡ doneWith words summary ⌝ }
+{
+    Changed {
+        answer: Answer::Done,
+        map: Tree { words, summary },
+    }
+}
+
+fn taken(start: usize, words: [u64; 16], summary: u16) -> Changed
+    ensures { λ r. ⌜ r ≡ takenWith start words summary ⌝ }
+{
+    Changed {
+        answer: Answer::At(start),
+        map: Tree { words, summary },
+    }
+}
+
+// The least free slot from `start` on, or that there is no room: what take and the public query share.
+fn next_free_in(words: &[u64; 16], start: usize) -> NextFree
+    ensures { λ r. ⌜ NextFreeInSays (now (words .entry)) start r ⌝ }
+{
+    let slot = sixteen::first_free(words, start);
+    if CAPACITY <= slot {
+        return NextFree::Refused(Refusal::NoRoom);
+    }
+    NextFree::At(slot)
+}
+
+// The lowest start that fits, or that there is no room: the search that take makes. It leaves at
+// once where no slot is free from the try on.
+fn lowest_start(words: &[u64; 16], n: usize, a: usize) -> NextFree
+    requires { ⌜ (0 < n) × (n ≤ 1024) × (a < 10) ⌝ }
+    ensures { λ r. ⌜ LowestStartSays (now (words .entry)) n a r ⌝ }
+{
+    let mut start = 0;
+    while start + n <= CAPACITY {
+        let next = next_free_in(words, start);
+        let NextFree::At(free) = next else {
+            return NextFree::Refused(Refusal::NoRoom);
+        };
+        if free == start {
+            if sixteen::all_free(words, start, n) {
+                return NextFree::At(start);
+            }
+        }
+        start = next_try(start, free, a);
+    }
+    NextFree::Refused(Refusal::NoRoom)
+}
+
+// The next multiple of 2^a: after `start` where the run from there did not fit, and else after the
+// used slots before `free`.
+fn next_try(start: usize, free: usize, a: usize) -> usize
+    requires { ⌜ (start ≤ free) × (free ≤ 2048) × (a < 10) ⌝ }
+    ensures { λ r. ⌜ r ≡ nextTry start free a ⌝ }
+{
+    if free == start {
+        return ((start >> a) + 1) << a;
+    }
+    (((free - 1) >> a) + 1) << a
+}
