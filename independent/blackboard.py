@@ -397,3 +397,45 @@ gets(BAD, 0)
 counts(BAD)
 gets(HIDDEN, 0)
 counts(HIDDEN)
+
+# the lesson's stories: each call on the map that the one before left
+
+
+def story(name, used, *calls):
+    MAPS[name] = Map(64, used)
+    print(f"{name}: at first, leaves{picture(64, MAPS[name].used, 0)}")
+    for call in calls:
+        call(name)
+        left = MAPS[name]
+        try:
+            MAPS[name] = Map(64, call.means(left)[1])
+        except Refused:
+            pass
+
+
+class Taking:
+    def __init__(self, n, a):
+        self.n, self.a = n, a
+
+    def __call__(self, name):
+        takes(name, self.n, self.a)
+
+    def means(self, m):
+        return m.take(self.n, self.a)
+
+
+class Freeing:
+    def __init__(self, start, n):
+        self.start, self.n = start, n
+
+    def __call__(self, name):
+        frees(name, self.start, self.n)
+
+    def means(self, m):
+        return m.free(self.start, self.n)
+
+
+story("a second free", (), Taking(4, 2), Freeing(0, 4), Freeing(0, 4), Taking(4, 2), Freeing(0, 4))
+story("a free of no entries", range(6), Freeing(0, 0))
+story("free, then take", {0}, Freeing(0, 1), Taking(1, 0))
+story("take, then free", {0}, Taking(1, 0), Freeing(0, 1))

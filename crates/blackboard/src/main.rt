@@ -1,6 +1,7 @@
 // The examples of document 01 that are run, each printed with its answer, and the edges of every
 // public function beside them. A program that shares nothing with this one prints the same lines.
 mod edges;
+mod lesson;
 mod show;
 mod trees;
 mod words;
@@ -21,6 +22,9 @@ fn main() {
     edges::tree_changes();
     edges::tree_questions();
     edges::unsound_trees();
+    lesson::second_free();
+    lesson::free_of_none();
+    lesson::moved_take();
 }
 
 // The lines of "Maps on the blackboard" that have no star.

@@ -37,6 +37,14 @@ fn left(changed: Changed) {
     show::text(b"\n");
 }
 
+// The map that a story begins with.
+pub fn at_first(name: &[u8], map: Word) {
+    show::text(name);
+    show::text(b": at first, leaves ");
+    drawn(map);
+    show::text(b"\n");
+}
+
 pub fn take(name: &[u8], map: Word, n: usize, a: usize) {
     show::text(name);
     show::asked(b": take ", n as u64, b" at a multiple of 2^", a as u64);

@@ -56,6 +56,24 @@ carried L M to from there back = record {
   same = λ m sound held. ap from (L .same (to m) sound held) ∙ back m;
 }
 
+-- the same maps, with the slots that they hold said in other words
+abbrev pub seenAs : (L : View) (slots : L .Map → Slots) → ((m : L .Map) → L .slotOf m ≡ slots m) → View
+seenAs L slots seen = record {
+  k = L .k;
+  Map = L .Map;
+  slotOf = slots;
+  ofSlots = L .ofSlots;
+  Sound = L .Sound;
+  isSound = L .isSound;
+  IsMap = L .IsMap;
+  finds-sound = L .finds-sound;
+  holds = λ S s h. ap (λ T. T s) (sym (seen (L .ofSlots S))) ∙ L .holds S s h;
+  past = λ m held s h. ap (λ T. T s) (sym (seen m)) ∙ L .past m held s h;
+  made-sound = L .made-sound;
+  made-map = L .made-map;
+  same = λ m sound held. ap (L .ofSlots) (sym (seen m)) ∙ L .same m sound held;
+}
+
 -- ---- many maps under a summary
 
 -- f at s and at each number after it, n in all

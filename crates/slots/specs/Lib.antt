@@ -5,6 +5,9 @@ pub mod Promises
 pub mod Search
 pub mod Tries
 pub mod Ways
+pub mod Records
 pub mod View
+pub mod Series
 pub mod Layouts
 pub mod Readings
+pub mod Lesson

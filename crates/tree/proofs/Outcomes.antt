@@ -26,7 +26,7 @@ use Rattle.slots.specs.Calls.{Call, rangeChecks}
 use Rattle.slots.specs.View.{answered, says-refused, says-accepted, made-alike}
 use Rattle.tree.specs.declared.Tree.{Tree}
 use Rattle.tree.specs.declared.Changed.{Changed}
-use Rattle.tree.specs.Layout.{treeOf, treeView, slotOf, ofSlots, Sound, IsTree, parted, slot-of-view}
+use Rattle.tree.specs.Layout.{treeOf, treeView, slotOf, ofSlots, Sound, IsTree, parted, slots-seen}
 use Rattle.tree.specs.Inner.{treeChecks, refusedWith, doneWith, takenWith}
 use Rattle.tree.specs.Contracts.{Leaves}
 
@@ -76,7 +76,7 @@ range-sound t s n fits range told kept =
 pub empty-shown : (t : Tree) → IsTree t → treeView .isSound t ≡ true → eqb (t .summary) 0 ≡ allFree (slotOf t) 0 1024
 empty-shown t held sound =
     vacant-is-free (underSummary (digitsView 6) (noDigits 6) 4) (noneUnder (digitsView 6) (noDigits 6) 4) (parted t) (treeView .finds-sound t .0 (rw sound tt)) held
-    ∙ ap (λ (S : Slots). allFree S 0 1024) (slot-of-view t)
+    ∙ ap (λ (S : Slots). allFree S 0 1024) (slots-seen t)
 
 -- ---- a run painted in a sound tree is the tree of the painted set
 
@@ -111,4 +111,4 @@ module _ (t : Tree) (held : IsTree t) (right : t .summary ≡ summaryOf (t .word
       ap₂ treeOf e (f ∙ ap (λ (ws : List ℕ). touchedSummary ws (t .summary) s n) e)
       ∙ ap (treeOf (left .words)) (touched-right (t .words) (t .summary) s n v right)
       ∙ sym (treeView .same left left-sound left-held)
-      ∙ made-alike treeView _ _ (λ p l. ap (λ slots. slots p) (slot-of-view left) ∙ painted-slots (t .words) s n v (held .count-right) p l)
+      ∙ made-alike treeView _ _ (painted-slots (t .words) s n v (held .count-right))

@@ -1,9 +1,9 @@
--- The owner's first two demands, of the tree map, and that a contract leaves one outcome: each said of every outcome that a contract allows.
+-- The owner's three demands, of the tree map, and that a contract leaves one outcome: each said of every outcome that a contract allows.
 -- Each cites the laws of `slots` and of the view. The hypotheses are that the tree is sound and a value of its type, and no others.
-use mathlib.Core.Path.{_≡_, sym, ap, _∙_}
+use mathlib.Core.Path.{_≡_, refl, sym, ap, _∙_}
 use mathlib.Core.Logic.{_↔_}
 use mathlib.Core.Bool.{Bool, true, false}
-use mathlib.Core.List.{List, [], _∷_}
+use mathlib.Core.List.{List, [], _∷_, map, Perm}
 use Prim.Native.Nat.{ℕ, _≤_, _<_}
 use lib.Dec.{T}
 use Rattle.answers.specs.Said.{value, refused}
@@ -18,10 +18,13 @@ use Rattle.slots.specs.Lowest.{LowestFit, NoStart, lowest}
 use Rattle.slots.specs.Calls.{Call, says, leaves, takeCall, getCall, emptyCall, usedCall, nextFreeCall, claimCall, freeCall, setCall}
 use Rattle.slots.specs.Promises as Promises
 use Rattle.slots.specs.Promises.{InRange, RefusedBy}
+use Rattle.slots.specs.Records.{Entry}
+use Rattle.slots.specs.Series as Series
+use Rattle.slots.specs.Series.{Asked, callOf, forward, AllDone, answersOf, mapsOf, lastOf, recordOf, beforeOf}
 use Rattle.slots.specs.View.{answered, changed-says, changed-refused, changed-sound, changed-map, answered-decided, sound-answers, sound-changes}
 use Rattle.tree.specs.declared.Tree.{Tree}
 use Rattle.tree.specs.declared.Changed.{Changed}
-use Rattle.tree.specs.Layout.{slotOf, ofSlots, Sound, IsTree, treeView, slot-of-view}
+use Rattle.tree.specs.Layout.{slotOf, ofSlots, Sound, IsTree, treeView}
 use Rattle.tree.specs.Contracts.{Leaves, NewEmptySays, NewFullSays, WithSummarySays, WordsSays, SummarySays, TakeSays, ClaimSays, FreeSays, SetSays, NextFreeSays, GetSays, EmptySays, UsedSays, CapacitySays}
 
 -- ---- sound trees
@@ -34,7 +37,7 @@ full-is-sound r e = rw e (treeView .made-sound all)
 
 -- a sound tree is the tree made of its slots: the same slots are the same words and the same summary
 pub made-of-its-slots : (t : Tree) → Sound t → IsTree t → ofSlots (slotOf t) ≡ t
-made-of-its-slots t sound held = rw (sym (slot-of-view t)) (treeView .same t sound held)
+made-of-its-slots t = treeView .same t
 
 -- ---- for every call that changes the map, whatever it is asked
 
@@ -61,7 +64,7 @@ module _ (t : Tree) (call : Call Reply) (r : Changed) (outcome : Leaves t call r
   answers-as-the-set sound = answer-is ∙ sound-answers treeView t call sound
 
   pub leaves-the-set : Sound t → IsTree t → r .map ≡ ofSlots (leaves (slotOf t) call)
-  leaves-the-set sound held = ap (λ out. out .1) (outcome ∙ sound-changes treeView t call sound held) ∙ ap (λ S. ofSlots (leaves S call)) (slot-of-view t)
+  leaves-the-set sound held = ap (λ out. out .1) (outcome ∙ sound-changes treeView t call sound held)
 
   leaves-after : Sound t → IsTree t → (reply : Reply) → answerSays (r .answer) ≡ value reply → r .map ≡ ofSlots (call .after)
   leaves-after sound held reply said =
@@ -159,6 +162,44 @@ module _ (t : Tree) (sound : Sound t) where
 
   pub used-counts : (r : Number) → UsedSays t r → numberSays r ≡ value (count (slotOf t) 0 1024)
   used-counts r outcome = outcome ∙ sound-answers treeView t _ sound ∙ Promises.used-promise 10 (slotOf t)
+
+-- ---- demand 3, for any series of take, claim and free calls with any numbers
+
+-- a series as it was run: each outcome is one that its call's contract allows, on the map that the one before left
+abbrev pub Ran : Tree → List Asked → List Changed → Type 0
+Ran m [] [] = Unit {0}
+Ran m [] (r ∷ rs) = ⊥
+Ran m (c ∷ cs) [] = ⊥
+Ran m (c ∷ cs) (r ∷ rs) = Leaves m (callOf 10 (slotOf m) c) r × Ran (r .map) cs rs
+
+-- so its answers and its maps are those of the series, of which the rest speaks
+pub ran-answers : (m : Tree) (cs : List Asked) (rs : List Changed) → Ran m cs rs → map (λ r. answerSays (r .answer)) rs ≡ answersOf treeView m cs
+ran-answers m [] [] ran = refl
+ran-answers m [] (r ∷ rs) ran = absurd ran
+ran-answers m (c ∷ cs) [] ran = absurd ran
+ran-answers m (c ∷ cs) (r ∷ rs) ran =
+    λ i. ran .0 i .0 ∷ (ran-answers (r .map) cs rs (ran .1) ∙ ap (λ (next : Tree). answersOf treeView next cs) (ap (λ out. out .1) (ran .0))) i
+
+pub ran-maps : (m : Tree) (cs : List Asked) (rs : List Changed) → Ran m cs rs → map (λ r. r .map) rs ≡ mapsOf treeView m cs
+ran-maps m [] [] ran = refl
+ran-maps m [] (r ∷ rs) ran = absurd ran
+ran-maps m (c ∷ cs) [] ran = absurd ran
+ran-maps m (c ∷ cs) (r ∷ rs) ran =
+    λ i. ran .0 i .1 ∷ (ran-maps (r .map) cs rs (ran .1) ∙ ap (λ (next : Tree). mapsOf treeView next cs) (ap (λ out. out .1) (ran .0))) i
+
+module _ (m : Tree) (sound : Sound m) (held : IsTree m) (cs : List Asked) where
+  -- walk the record backward from the last map, freeing what was taken or claimed and claiming what was freed: each step is accepted and restores the map
+  -- that stood before it, word and summary, back to the first
+  pub walked-back : Series.Back treeView (lastOf treeView m cs) (recordOf treeView m cs) (beforeOf treeView m cs) m
+  walked-back = Series.walked-back treeView m sound held cs
+
+  -- the record replayed from the first map, a take standing as a claim of its run, is accepted throughout and ends in the last map
+  pub replayed : Series.Forth treeView m (recordOf treeView m cs) (lastOf treeView m cs)
+  replayed = Series.replayed treeView m sound held cs
+
+  -- and the same entries in any other order from the same first map end in the same map, if every one is accepted
+  pub in-any-order : (es : List Entry) → Perm es (recordOf treeView m cs) → AllDone (answersOf treeView m (forward es)) → lastOf treeView m (forward es) ≡ lastOf treeView m cs
+  in-any-order = Series.in-any-order treeView m sound held cs
 
 -- ---- one answer: any two outcomes that a contract allows coincide
 

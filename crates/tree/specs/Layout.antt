@@ -8,7 +8,7 @@ use lib.ListN.{getD}
 use Rattle.bits.specs.Digits.{digit, number}
 use Rattle.slots.specs.Sets.{Slots}
 use Rattle.slots.specs.View.{View}
-use Rattle.slots.specs.Layouts.{Summed, digitsView, noDigits, underSummary, carried}
+use Rattle.slots.specs.Layouts.{Summed, digitsView, noDigits, underSummary, carried, seenAs}
 use Rattle.layout.specs.Painting.{slotIn}
 use Rattle.tree.specs.declared.Tree.{Tree}
 
@@ -19,12 +19,19 @@ parted t = record { parts = t .words; summary = t .summary }
 abbrev pub treeOf : List ℕ → ℕ → Tree
 treeOf words summary = record { words = words; summary = summary }
 
-abbrev pub treeView : View
-treeView = carried (underSummary (digitsView 6) (noDigits 6) 4) Tree parted (λ m. treeOf (m .parts) (m .summary)) (λ m. refl) (λ t. refl)
+abbrev pub partedView : View
+partedView = carried (underSummary (digitsView 6) (noDigits 6) 4) Tree parted (λ m. treeOf (m .parts) (m .summary)) (λ m. refl) (λ t. refl)
 
 -- slot s is bit s % 64 of word s / 64
 abbrev pub slotOf : Tree → Slots
 slotOf t = slotIn (t .words)
+
+pub slots-seen : (t : Tree) → partedView .slotOf t ≡ slotOf t
+unfolding slotIn number
+slots-seen t = refl
+
+abbrev pub treeView : View
+treeView = seenAs partedView slotOf slots-seen
 
 abbrev pub ofSlots : Slots → Tree
 ofSlots S = treeView .ofSlots S
@@ -38,10 +45,6 @@ abbrev pub IsTree : Tree → Type 0
 IsTree t = treeView .IsMap t
 
 -- ---- what they mean
-
-pub slot-of-view : (t : Tree) → treeView .slotOf t ≡ slotOf t
-unfolding slotIn number
-slot-of-view t = refl
 
 pub sound-means : (t : Tree) → Sound t ↔ ((i : ℕ) → i < 16 → (digit (t .summary) i ≡ true) ↔ (getD (t .words) i 0 ≡ 0 → ⊥))
 unfolding number

@@ -1,8 +1,9 @@
--- The owner's first two demands, of the word map: said of every outcome that a contract allows. Each cites the laws of `slots`. The one
+-- The owner's three demands, of the word map: said of every outcome that a contract allows. Each cites the laws of `slots`. The one
 -- hypothesis is that the word is a value of its type.
-use mathlib.Core.Path.{_≡_, sym, ap, _∙_}
+use mathlib.Core.Path.{_≡_, refl, sym, ap, _∙_}
 use mathlib.Core.Logic.{_↔_}
 use mathlib.Core.Bool.{Bool, true, false}
+use mathlib.Core.List.{List, [], _∷_, map, Perm}
 use Prim.Native.Nat.{ℕ, _≤_, _<_}
 use lib.Dec.{T}
 use Rattle.answers.specs.Said.{value, refused, value-injective}
@@ -15,6 +16,9 @@ use Rattle.slots.specs.Sets.{painted}
 use Rattle.slots.specs.Lowest.{LowestFit, NoStart, lowest}
 use Rattle.slots.specs.Calls.{Call, says, leaves}
 use Rattle.slots.specs.Promises as Promises
+use Rattle.slots.specs.Records.{Entry}
+use Rattle.slots.specs.Series as Series
+use Rattle.slots.specs.Series.{Asked, callOf, forward, AllDone, answersOf, mapsOf, lastOf, recordOf, beforeOf}
 use Rattle.slots.specs.View.{changed-says, changed-refused, sound-answers, sound-changes}
 use Rattle.word.specs.declared.Word.{Word}
 use Rattle.word.specs.declared.Changed.{Changed}
@@ -89,3 +93,41 @@ module _ (w : Word) where
 
   pub empty-tells : (b : Bool) → EmptySays w b → T b ↔ ((i : ℕ) → i < 64 → slotOf w i ≡ false)
   empty-tells b outcome = Promises.empty-promise 6 (slotOf w) b .0 (sym (outcome ∙ sound-answers wordView w _ tt))
+
+-- ---- demand 3, for any series of take, claim and free calls with any numbers
+
+-- a series as it was run: each outcome is one that its call's contract allows, on the map that the one before left
+abbrev pub Ran : Word → List Asked → List Changed → Type 0
+Ran m [] [] = Unit {0}
+Ran m [] (r ∷ rs) = ⊥
+Ran m (c ∷ cs) [] = ⊥
+Ran m (c ∷ cs) (r ∷ rs) = Leaves m (callOf 6 (slotOf m) c) r × Ran (r .map) cs rs
+
+-- so its answers and its maps are those of the series, of which the rest speaks
+pub ran-answers : (m : Word) (cs : List Asked) (rs : List Changed) → Ran m cs rs → map (λ r. answerSays (r .answer)) rs ≡ answersOf wordView m cs
+ran-answers m [] [] ran = refl
+ran-answers m [] (r ∷ rs) ran = absurd ran
+ran-answers m (c ∷ cs) [] ran = absurd ran
+ran-answers m (c ∷ cs) (r ∷ rs) ran =
+    λ i. ran .0 i .0 ∷ (ran-answers (r .map) cs rs (ran .1) ∙ ap (λ (next : Word). answersOf wordView next cs) (ap (λ out. out .1) (ran .0))) i
+
+pub ran-maps : (m : Word) (cs : List Asked) (rs : List Changed) → Ran m cs rs → map (λ r. r .map) rs ≡ mapsOf wordView m cs
+ran-maps m [] [] ran = refl
+ran-maps m [] (r ∷ rs) ran = absurd ran
+ran-maps m (c ∷ cs) [] ran = absurd ran
+ran-maps m (c ∷ cs) (r ∷ rs) ran =
+    λ i. ran .0 i .1 ∷ (ran-maps (r .map) cs rs (ran .1) ∙ ap (λ (next : Word). mapsOf wordView next cs) (ap (λ out. out .1) (ran .0))) i
+
+module _ (m : Word) (held : IsWord m) (cs : List Asked) where
+  -- walk the record backward from the last map, freeing what was taken or claimed and claiming what was freed: each step is accepted and restores the map
+  -- that stood before it, back to the first
+  pub walked-back : Series.Back wordView (lastOf wordView m cs) (recordOf wordView m cs) (beforeOf wordView m cs) m
+  walked-back = Series.walked-back wordView m tt held cs
+
+  -- the record replayed from the first map, a take standing as a claim of its run, is accepted throughout and ends in the last map
+  pub replayed : Series.Forth wordView m (recordOf wordView m cs) (lastOf wordView m cs)
+  replayed = Series.replayed wordView m tt held cs
+
+  -- and the same entries in any other order from the same first map end in the same map, if every one is accepted
+  pub in-any-order : (es : List Entry) → Perm es (recordOf wordView m cs) → AllDone (answersOf wordView m (forward es)) → lastOf wordView m (forward es) ≡ lastOf wordView m cs
+  in-any-order = Series.in-any-order wordView m tt held cs

@@ -1,0 +1,40 @@
+// The stories of docs/LESSON.md, each call on the map that the one before left. The lesson's pictures
+// are made of these lines.
+use crate::words;
+use word::Word;
+
+// Slots that are freed twice: at once, and after another has taken them again.
+pub fn second_free() {
+    let name = b"a second free";
+    let first = Word::new_empty();
+    words::at_first(name, first);
+    words::take(name, first, 4, 2);
+    let taken = first.take(4, 2).map;
+    words::free(name, taken, 0, 4);
+    let freed = taken.free(0, 4).map;
+    words::free(name, freed, 0, 4);
+    words::take(name, freed, 4, 2);
+    let again = freed.take(4, 2).map;
+    words::free(name, again, 0, 4);
+}
+
+// A free that names no slot, on a map with some.
+pub fn free_of_none() {
+    let name = b"a free of no entries";
+    let first = Word::new_empty().claim(0, 6).map;
+    words::at_first(name, first);
+    words::free(name, first, 0, 0);
+}
+
+// The same two calls in two orders.
+pub fn moved_take() {
+    let first = Word::new_empty().claim(0, 1).map;
+    let name = b"free, then take";
+    words::at_first(name, first);
+    words::free(name, first, 0, 1);
+    words::take(name, first.free(0, 1).map, 1, 0);
+    let moved = b"take, then free";
+    words::at_first(moved, first);
+    words::take(moved, first, 1, 0);
+    words::free(moved, first.take(1, 0).map, 0, 1);
+}

@@ -1,0 +1,61 @@
+-- The lesson's examples, on a map of four slots, as statements that antt computes: why a take cannot be moved, and what becomes of a second free.
+-- Rests on `Series`.
+use mathlib.Core.Path.{_≡_, refl}
+use mathlib.Core.Bool.{Bool, true, false}
+use mathlib.Core.List.{List, [], _∷_, Perm, Perm·swap}
+use Prim.Native.Nat.{ℕ}
+use native.Mathlib.Omega.{arith}
+use Rattle.answers.specs.Said.{value, refused, judged, leaving}
+use Rattle.answers.specs.Answers.{at, ok}
+use Rattle.bits.specs.Range.{least, every, within}
+use Rattle.bits.specs.Digits.{digit, number}
+use Rattle.slots.specs.Sets.{allFree, allUsed, painted}
+use Rattle.slots.specs.Lowest.{fitsAt, lowest}
+use Rattle.slots.specs.Calls.{takeCall, freeCall}
+use Rattle.slots.specs.Records.{Entry, naming-any-order}
+use Rattle.slots.specs.View.{View, answered, changed}
+use Rattle.slots.specs.Series.{Asked, take, free, answersOf, recordOf, lastOf}
+use Rattle.slots.specs.Layouts.{digitsView}
+
+-- four slots in one number: slot s is digit s
+abbrev pub four : View
+four = digitsView 2
+
+-- only slot 0 is used at first
+abbrev freeFirst : List Asked
+freeFirst = free 0 1 ∷ take 1 0 ∷ []
+
+abbrev takeFirst : List Asked
+takeFirst = take 1 0 ∷ free 0 1 ∷ []
+
+-- the same two calls in two orders, both accepted throughout: the take that is moved gets another run, so the entries are no longer the same, nor is the map
+pub a-moved-take : Perm takeFirst freeFirst
+    × (answersOf four 1 freeFirst ≡ value ok ∷ value (at 0) ∷ []) × (lastOf four 1 freeFirst ≡ 1)
+    × (answersOf four 1 takeFirst ≡ value (at 1) ∷ value ok ∷ []) × (lastOf four 1 takeFirst ≡ 2)
+unfolding changed answered leaving judged takeCall freeCall lowest fitsAt least every within allFree allUsed painted digit number
+a-moved-take = (Perm·swap (free 0 1) (take 1 0) [], refl, refl, refl, refl)
+
+abbrev entry : Bool → ℕ → Entry
+entry v s = record { marks = v; start = s; entries = 1 }
+
+pub its-records : (recordOf four 1 freeFirst ≡ entry false 0 ∷ entry true 0 ∷ []) × (recordOf four 1 takeFirst ≡ entry true 1 ∷ entry false 0 ∷ [])
+unfolding changed answered leaving judged takeCall freeCall lowest fitsAt least every within allFree allUsed painted digit number
+its-records = (refl, refl)
+
+-- no order of the one record is the other: only one of them marks slot 1
+pub other-entries : Perm (entry true 1 ∷ entry false 0 ∷ []) (entry false 0 ∷ entry true 0 ∷ []) → ⊥
+unfolding within
+other-entries same = let marks : _≡_ {A = ℕ} 1 0 = naming-any-order true 1 _ _ same in omega arith
+
+-- a second free is refused while the slot is free, and the map is not changed; once another has taken the slot again it is accepted: slot numbers alone
+-- cannot tell it
+pub a-second-free : (answersOf four 0 (take 1 0 ∷ free 0 1 ∷ free 0 1 ∷ []) ≡ value (at 0) ∷ value ok ∷ refused 5 ∷ [])
+    × (lastOf four 0 (take 1 0 ∷ free 0 1 ∷ free 0 1 ∷ []) ≡ 0)
+    × (answersOf four 0 (take 1 0 ∷ free 0 1 ∷ take 1 0 ∷ free 0 1 ∷ []) ≡ value (at 0) ∷ value ok ∷ value (at 0) ∷ value ok ∷ [])
+unfolding changed answered leaving judged takeCall freeCall lowest fitsAt least every within allFree allUsed painted digit number
+a-second-free = (refl, refl, refl)
+
+-- a free of no entries is refused, whatever the map
+pub a-free-of-none : (m : ℕ) → answersOf four m (free 0 0 ∷ []) ≡ refused 2 ∷ []
+unfolding changed answered leaving judged freeCall
+a-free-of-none m = refl
