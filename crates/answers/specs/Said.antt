@@ -57,6 +57,11 @@ pub judged-passed : {A : Type 0} (k : ℕ) (b : Bool) (a : A) → b ≡ false �
 unfolding judged
 judged-passed k b a e = rw e
 
+-- a check that finds nothing leaves it to the next
+pub judged-next : {A : Type 0} (k : ℕ) (b : Bool) (cs : List Check) (a : A) → b ≡ false → judged ((k when b) ∷ cs) a ≡ judged cs a
+unfolding judged
+judged-next k b cs a e = rw e
+
 -- where a value is said, the first check has found nothing
 pub judged-checked : {A : Type 0} (k : ℕ) (b : Bool) (cs : List Check) (a x : A) → judged ((k when b) ∷ cs) a ≡ value x → (b ≡ false) × (judged cs a ≡ value x)
 unfolding judged

@@ -4,7 +4,7 @@ ghost use mathlib.Core.Bool.{not};
 ghost use Prim.Native.Nat.{_≤_, _<_, _*_, _^_};
 ghost use lib.Dec.{eqb};
 ghost use Rattle.bits.specs.Range.{bit};
-ghost use Rattle.one_word.specs.OneWord.{RunMaskSays, paintedIn};
+ghost use Rattle.one_word.specs.OneWord.{RunMaskSays};
 ghost use Rattle.layout.specs.Painting.{endIn, partMask};
 ghost use Rattle.layout.specs.Sixteen.{SummarySays, GetSays, CountSays, FirstFreeSays, AllFreeSays, PaintSays, AllUsedSays, TouchedSays, withBit};
 
@@ -137,22 +137,9 @@ pub fn all_used(words: &[u64; 16], start: usize, n: usize) -> bool
     true
 }
 
-// Gives the n slots from `start` on the value `used`, as far as there are slots.
-pub fn paint(words: &mut [u64; 16], start: usize, n: usize, used: bool)
-    ensures { λ _. ⌜ PaintSays (now (words .entry)) start n used (now (words .exit)) ⌝ }
-{
-    paint_with(words, start, n, used, false)
-}
-
-// The same, with each mask read from the table of low masks.
-pub fn paint_by_table(words: &mut [u64; 16], start: usize, n: usize, used: bool)
-    ensures { λ _. ⌜ PaintSays (now (words .entry)) start n used (now (words .exit)) ⌝ }
-{
-    paint_with(words, start, n, used, true)
-}
-
-// Word by word; `table` tells where the masks come from, and changes nothing else.
-fn paint_with(words: &mut [u64; 16], start: usize, n: usize, used: bool, table: bool)
+// Gives the n slots from `start` on the value `used`, as far as there are slots. `table` tells whether
+// the masks are read from the table of low masks or built by shifts, and changes nothing else.
+pub fn paint(words: &mut [u64; 16], start: usize, n: usize, used: bool, table: bool)
     ensures { λ _. ⌜ PaintSays (now (words .entry)) start n used (now (words .exit)) ⌝ }
 {
     if SLOTS <= start {
@@ -161,18 +148,9 @@ fn paint_with(words: &mut [u64; 16], start: usize, n: usize, used: bool, table: 
     let end = end_of(start, n);
     let mut i = start / 64;
     while i * 64 < end {
-        words[i] = painted(words[i], part_mask(start, end, i, table), used);
+        words[i] = one_word::paint(words[i], part_mask(start, end, i, table), used);
         i += 1;
     }
-}
-
-fn painted(word: u64, mask: u64, used: bool) -> u64
-    ensures { λ r. ⌜ r ≡ paintedIn word mask used ⌝ }
-{
-    if used {
-        return one_word::mark(word, mask);
-    }
-    one_word::unmark(word, mask)
 }
 
 // Where a run ends among the slots.

@@ -45,6 +45,9 @@ MarkSays word mask r = r ≡ paintedIn word mask true
 abbrev pub UnmarkSays : ℕ → ℕ → ℕ → Type 0
 UnmarkSays word mask r = r ≡ paintedIn word mask false
 
+abbrev pub PaintSays : ℕ → ℕ → Bool → ℕ → Type 0
+PaintSays word mask used r = r ≡ paintedIn word mask used
+
 abbrev pub FirstFreeSays : ℕ → ℕ → ℕ → Type 0
 FirstFreeSays word from r = r ≡ freeFrom 6 (digit word) from
 
@@ -67,6 +70,9 @@ mark-one-answer word mask r q p o = p ∙ sym o
 
 pub unmark-one-answer : (word mask r q : ℕ) → UnmarkSays word mask r → UnmarkSays word mask q → r ≡ q
 unmark-one-answer word mask r q p o = p ∙ sym o
+
+pub paint-one-answer : (word mask : ℕ) (used : Bool) (r q : ℕ) → PaintSays word mask used r → PaintSays word mask used q → r ≡ q
+paint-one-answer word mask used r q p o = p ∙ sym o
 
 pub first-free-one-answer : (word from r q : ℕ) → FirstFreeSays word from r → FirstFreeSays word from q → r ≡ q
 first-free-one-answer word from r q p o = p ∙ sym o

@@ -3,7 +3,7 @@
 // holds a 1 where slot i is used. No function refuses; each answers for every input. Rests on `bits`.
 ghost use mathlib.Core.Path.{_≡_};
 ghost use lib.Count.{trailingZeros};
-ghost use Rattle.one_word.specs.OneWord.{RunMaskSays, AllFreeSays, AllUsedSays, MarkSays, UnmarkSays, FirstFreeSays, CountSays};
+ghost use Rattle.one_word.specs.OneWord.{RunMaskSays, AllFreeSays, AllUsedSays, MarkSays, UnmarkSays, PaintSays, FirstFreeSays, CountSays};
 
 const ALL: u64 = 0xffff_ffff_ffff_ffff;
 
@@ -59,6 +59,16 @@ pub fn unmark(word: u64, mask: u64) -> u64
     ensures { λ r. ⌜ UnmarkSays word mask r ⌝ }
 {
     word & !mask
+}
+
+// The word with each place of the mask given the value `used`, and the others as they are.
+pub fn paint(word: u64, mask: u64, used: bool) -> u64
+    ensures { λ r. ⌜ PaintSays word mask used r ⌝ }
+{
+    if used {
+        return mark(word, mask);
+    }
+    unmark(word, mask)
 }
 
 // The least free place from `from` on, or 64 where there is none: the trailing zeros of the

@@ -8,12 +8,13 @@ use native.Mathlib.Nat.{min-eq-left, le-of-lt, le-refl, le-antisymm, mod-eq-of-l
 use native.Mathlib.Omega.{arith}
 use lib.Dec.{leb, eqb}
 use lib.Pow.{pow-lt}
-use borrow.Author.Tests.{lt-leb, le-leb, eqb-true, eqb-false, leb-true, leb-false}
-use Rattle.answers.specs.Said.{Said, value, refused, _when_, judged, judged-found, judged-passed, value≢refused, value-injective}
+use borrow.Author.Tests.{ne-eqb, le-ltb, lt-leb, le-leb, eqb-true, eqb-false}
+use Rattle.answers.specs.Said.{Said, value, refused, _when_, judged, onValue, judged-found, judged-passed, judged-next, judged-onValue}
+use Rattle.answers.specs.Answers.{at}
 use Rattle.bits.specs.Range.{either, least}
 use Rattle.slots.specs.Sets.{Slots, allFree, AllFree, finds-all-free}
 use Rattle.slots.specs.Lowest.{lowest, Fits, LowestFit, NoStart}
-use Rattle.slots.specs.Calls.{says, nextFreeCall}
+use Rattle.slots.specs.Calls.{says, takeCall, nextFreeCall}
 use Rattle.slots.specs.Promises.{NextFree, NoneFree, next-free-promise, next-free-none}
 use Rattle.slots.specs.Search.{Searched, nextMultiple, next-above, next-near, searched-none, searched-on, lowest-is, lowest-none}
 
@@ -29,20 +30,9 @@ freeFrom k S s = least (λ i. not (S i)) (min s (2 ^ k)) (2 ^ k - s)
 unfoldable pub nextTry : ℕ → ℕ → ℕ → ℕ
 nextTry start free a = nextMultiple a (elim (eqb free start) [ true ↦ start | false ↦ free - 1 ])
 
--- ---- what is known of a slot, or of none, that was said
+-- ---- a slot, or none, is said
 
 module _ (k slot : ℕ) where
-  pub room-none : (r : ℕ) → refused r ≡ slotOrNone k slot → 2 ^ k ≤ slot
-  unfolding slotOrNone
-  room-none r e =
-      either (leb (2 ^ k) slot) (λ t. leb-true (2 ^ k) slot t) (λ t. absurd (value≢refused slot r (sym (judged-passed 7 (leb (2 ^ k) slot) slot t) ∙ sym e)))
-
-  pub room-found : (x : ℕ) → value x ≡ slotOrNone k slot → (slot ≡ x) × (slot < 2 ^ k)
-  unfolding slotOrNone
-  room-found x e =
-      either (leb (2 ^ k) slot) (λ t. absurd (value≢refused x 7 (e ∙ judged-found 7 (leb (2 ^ k) slot) slot t)))
-      (λ t. (value-injective (sym (judged-passed 7 (leb (2 ^ k) slot) slot t) ∙ sym e), leb-false (2 ^ k) slot t))
-
   pub says-room-none : 2 ^ k ≤ slot → refused 7 ≡ slotOrNone k slot
   unfolding slotOrNone
   says-room-none l = sym (judged-found 7 _ _ (le-leb (2 ^ k) slot l))
@@ -50,6 +40,13 @@ module _ (k slot : ℕ) where
   pub says-room-found : slot < 2 ^ k → value slot ≡ slotOrNone k slot
   unfolding slotOrNone
   says-room-found l = sym (judged-passed 7 _ slot (lt-leb (2 ^ k) slot l))
+
+-- with numbers that pass, take says what the search says
+pub take-searched : (k : ℕ) (S : Slots) (n a : ℕ) → 0 < n → a < k → n ≤ 2 ^ k → onValue at (slotOrNone k (lowest k S n a)) ≡ says (takeCall k S n a)
+unfolding slotOrNone says takeCall
+take-searched k S n a pos small few =
+    judged-onValue at ((7 when leb (2 ^ k) (lowest k S n a)) ∷ []) (lowest k S n a)
+    ∙ sym (judged-next 2 _ _ _ (ne-eqb n 0 (λ e. omega arith)) ∙ judged-next 3 _ _ _ (lt-leb k a small) ∙ judged-next 4 _ _ _ (le-ltb (2 ^ k) n few))
 
 -- ---- the next free slot from the try on
 

@@ -8,9 +8,7 @@ use lib.Dec.{eqb}
 use borrow.Author.Tests.{eq-eqb, ne-eqb, lt-ltb, le-ltb, lt-leb, le-leb}
 use Rattle.answers.specs.Said.{value, refused, judged}
 use Rattle.answers.specs.Faults.{faults-decide, finds-eq}
-use Rattle.answers.specs.Answers.{at}
 use Rattle.slots.specs.Sets.{Slots, allFree}
-use Rattle.slots.specs.Lowest.{lowest}
 use Rattle.slots.specs.Calls.{says, rangeChecks, takeCall, nextFreeCall, getCall, emptyCall}
 use Rattle.slots.specs.Promises.{InRange, in-range, setFaults, finds-past}
 
@@ -58,15 +56,6 @@ module _ (k : ℕ) (S : Slots) (n a : ℕ) where
       pub take-too-many : 2 ^ k < n → says (takeCall k S n a) ≡ refused 4
       unfolding says takeCall judged
       take-too-many l = rw (some, lt-leb k a small, lt-ltb (2 ^ k) n l)
-
-      module _ (few : n ≤ 2 ^ k) where
-        pub take-no-room : 2 ^ k ≤ lowest k S n a → says (takeCall k S n a) ≡ refused 7
-        unfolding says takeCall judged
-        take-no-room l = rw (some, lt-leb k a small, le-ltb (2 ^ k) n few, le-leb (2 ^ k) (lowest k S n a) l)
-
-        pub take-at : (o : ℕ) → lowest k S n a ≡ o → o < 2 ^ k → says (takeCall k S n a) ≡ value (at o)
-        unfolding says takeCall judged
-        take-at o e l = rw (e, some, lt-leb k a small, le-ltb (2 ^ k) n few, lt-leb (2 ^ k) o l)
 
 -- ---- the checks of the calls that only ask
 

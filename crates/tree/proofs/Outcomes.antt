@@ -10,40 +10,27 @@ use lib.Dec.{ltb, eqb, eqb→eq, eqb-refl}
 use types.Run.{OneOf}
 use denote.Enum.Declared.{tagOf}
 use Rattle.answers.proofs.Answer.{the-type}
-use Rattle.answers.proofs.Judging.{passed}
-use Rattle.answers.specs.Said.{value, refused, judged, judged-checked}
+use Rattle.answers.proofs.Judging.{not-refused}
+use Rattle.answers.specs.Said.{value, refused, judged, judged-checked, value≢refused}
 use Rattle.answers.specs.Refusals.{numberOf}
 use Rattle.answers.specs.Answers.{Reply, at, ok, answerSays}
 use Rattle.answers.specs.declared.Refusal.{Refusal}
 use Rattle.answers.specs.declared.Answer.{Answer}
+use Rattle.answers.specs.declared.Answer.the-variants.{At, Done, Refused}
 use Rattle.bits.specs.Range.{either, same-test}
 use Rattle.bits.specs.Digits.{number, number-lt}
 use Rattle.layout.specs.Painting.{endIn, paintedWords, painted-slots, painted-length, painted-fit}
 use Rattle.layout.specs.Sixteen.{usedWord, summaryOf, touchedSummary, touched-right, sound-by-summary}
 use Rattle.slots.specs.Sets.{Slots, allFree, painted}
 use Rattle.slots.specs.Layouts.{digitsView, noDigits, underSummary, noneUnder, vacant-is-free}
-use Rattle.slots.specs.Calls.{Call, rangeChecks}
-use Rattle.slots.specs.View.{answered, says-refused, says-accepted, made-alike}
+use Rattle.slots.specs.Calls.{Call, takeCall}
+use Rattle.slots.specs.Promises.{take-after}
+use Rattle.slots.specs.View.{answered, found-sound, says-refused, says-accepted, made-alike}
 use Rattle.tree.specs.declared.Tree.{Tree}
 use Rattle.tree.specs.declared.Changed.{Changed}
 use Rattle.tree.specs.Layout.{treeOf, treeView, slotOf, ofSlots, Sound, IsTree, parted, slots-seen}
-use Rattle.tree.specs.Inner.{treeChecks, refusedWith, doneWith, takenWith}
+use Rattle.tree.specs.Inner.{paintedTree, leftBy, carriedOut}
 use Rattle.tree.specs.Contracts.{Leaves}
-
-module _ (t : Tree) (call : Call Reply) (r : Changed) where
-  pub refusing : (why : Refusal) → r ≡ refusedWith t why → answered treeView t call ≡ refused (numberOf why) → Leaves t call r
-  refusing why e said = ap (λ (out : Changed). (answerSays (out .answer), out .map)) e ∙ sym (says-refused treeView t call (numberOf why) said)
-
-  module _ (words : List ℕ) (summary : ℕ) (left : treeOf words summary ≡ ofSlots (call .after)) where
-    pub finishing : r ≡ doneWith words summary → answered treeView t call ≡ value ok → Leaves t call r
-    finishing e said =
-        ap (λ (out : Changed). (answerSays (out .answer), out .map)) e ∙ ap (λ (map : Tree). (value ok, map)) left
-        ∙ sym (says-accepted treeView t call ok said)
-
-    pub granting : (start : ℕ) → r ≡ takenWith start words summary → answered treeView t call ≡ value (at start) → Leaves t call r
-    granting start e said =
-        ap (λ (out : Changed). (answerSays (out .answer), out .map)) e ∙ ap (λ (map : Tree). (value (at start), map)) left
-        ∙ sym (says-accepted treeView t call (at start) said)
 
 -- ---- the summary tells whether a tree is sound
 
@@ -64,13 +51,6 @@ module _ (t : Tree) (flag : Bool) (told : flag ≡ treeView .isSound t) where
 
   pub shown-sound : not flag ≡ false → treeView .isSound t ≡ true
   shown-sound e = sym told ∙ not-false flag e
-
--- where neither the tree nor the range was refused, the summary is right
-pub range-sound : (t : Tree) (s n : ℕ) → t .summary < 2 ^ 16 → (range : Answer) → answerSays range ≡ judged (treeChecks t s n) ok
-    → OneOf (0 ∷ 1 ∷ []) (tagOf the-type range) → t .summary ≡ summaryOf (t .words)
-range-sound t s n fits range told kept =
-    let said = passed (treeChecks t s n) range told kept in
-    right-summary t fits (not-false _ (judged-checked 1 _ (rangeChecks 10 s n) ok (said .0) (said .1) .0))
 
 -- of a sound tree the summary alone tells whether it is empty
 pub empty-shown : (t : Tree) → IsTree t → treeView .isSound t ≡ true → eqb (t .summary) 0 ≡ allFree (slotOf t) 0 1024
@@ -105,10 +85,54 @@ module _ (t : Tree) (held : IsTree t) (right : t .summary ≡ summaryOf (t .word
     summary-fits = left-fits;
   }
 
-  pub painted-tree : (words : List ℕ) (summary : ℕ) → words ≡ paintedWords (t .words) s n v → summary ≡ touchedSummary words (t .summary) s n
-      → treeOf words summary ≡ ofSlots (painted (slotOf t) s n v)
-  painted-tree words summary e f =
-      ap₂ treeOf e (f ∙ ap (λ (ws : List ℕ). touchedSummary ws (t .summary) s n) e)
-      ∙ ap (treeOf (left .words)) (touched-right (t .words) (t .summary) s n v right)
+  painted-tree : paintedTree (t .words) (t .summary) s n v ≡ ofSlots (painted (slotOf t) s n v)
+  painted-tree =
+      ap (treeOf (left .words)) (touched-right (t .words) (t .summary) s n v right)
       ∙ sym (treeView .same left left-sound left-held)
       ∙ made-alike treeView _ _ (painted-slots (t .words) s n v (held .count-right))
+
+-- ---- a judged call, carried out, is as its contract has it
+
+-- what is left where nothing was refused
+left-accepted : (judge : Answer) → OneOf (0 ∷ 1 ∷ []) (tagOf the-type judge) → (words : List ℕ) (summary s n : ℕ) (v : Bool)
+    → leftBy words summary judge s n v ≡ paintedTree words summary s n v
+left-accepted (At o) kept words summary s n v = refl
+left-accepted Done kept words summary s n v = refl
+left-accepted (Refused why) kept words summary s n v = absurd (value≢refused _ _ (sym (not-refused (Refused why) kept .1)))
+
+pub carried : (judge : Answer) → OneOf (0 ∷ 1 ∷ []) (tagOf the-type judge) → (words : List ℕ) (summary s n : ℕ) (v : Bool) (left : List ℕ) (updated : ℕ)
+    → left ≡ paintedWords words s n v → updated ≡ touchedSummary left summary s n
+    → _≡_ {A = Changed} (record { answer = judge; map = treeOf left updated }) (carriedOut words summary judge s n v)
+carried judge kept words summary s n v left updated e f =
+    ap (λ (map : Tree). record { answer = judge; map = map })
+    (ap₂ treeOf e (f ∙ ap (λ (ws : List ℕ). touchedSummary ws summary s n) e) ∙ sym (left-accepted judge kept words summary s n v))
+
+-- where something is said that is no refusal, the tree is sound
+accepted-sound : (t : Tree) (call : Call Reply) (reply : Reply) → answered treeView t call ≡ value reply → treeView .isSound t ≡ true
+unfolding answered
+accepted-sound t call reply said = not-false _ (judged-checked 1 _ (call .checks) (call .answer) reply said .0)
+
+-- the set that an accepted take leaves
+pub take-paints : (t : Tree) (n a start : ℕ) → value (at start) ≡ answered treeView t (takeCall 10 (slotOf t) n a)
+    → takeCall 10 (slotOf t) n a .after ≡ painted (slotOf t) start n true
+take-paints t n a start told =
+    let call = takeCall 10 (slotOf t) n a in
+    take-after 10 (slotOf t) n a start (sym (found-sound treeView t call (accepted-sound t call (at start) (sym told))) ∙ sym told)
+
+module _ (t : Tree) (call : Call Reply) (r : Changed) where
+  pub refusing : (why : Refusal) → r ≡ record { answer = Refused why; map = t } → answered treeView t call ≡ refused (numberOf why) → Leaves t call r
+  refusing why e said = ap (λ (out : Changed). (answerSays (out .answer), out .map)) e ∙ sym (says-refused treeView t call (numberOf why) said)
+
+  module _ (held : IsTree t) (s n : ℕ) (v : Bool) (after : call .after ≡ painted (slotOf t) s n v) where
+    accepting : (judge : Answer) (reply : Reply) → value reply ≡ answered treeView t call → answerSays judge ≡ value reply
+        → r ≡ record { answer = judge; map = paintedTree (t .words) (t .summary) s n v } → Leaves t call r
+    accepting judge reply told says e =
+        ap (λ (out : Changed). (answerSays (out .answer), out .map)) e
+        ∙ (λ i. (says i, painted-tree t held (right-summary t (held .summary-fits) (accepted-sound t call reply (sym told))) s n v i))
+        ∙ ap (λ S. (value reply, ofSlots S)) (sym after)
+        ∙ sym (says-accepted treeView t call reply (sym told))
+
+    pub carries : (judge : Answer) → answerSays judge ≡ answered treeView t call → r ≡ carriedOut (t .words) (t .summary) judge s n v → Leaves t call r
+    carries (At o) told e = accepting (At o) (at o) told refl e
+    carries Done told e = accepting Done ok told refl e
+    carries (Refused why) told e = refusing why e (sym told)

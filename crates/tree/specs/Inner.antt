@@ -3,16 +3,17 @@ use mathlib.Core.Path.{_≡_}
 use mathlib.Core.Bool.{Bool, not}
 use mathlib.Core.List.{List, _∷_}
 use Prim.Native.Nat.{ℕ}
-use Rattle.answers.specs.Said.{Check, _when_, judged}
-use Rattle.answers.specs.Answers.{ok, answerSays, nextFreeSays}
+use Rattle.answers.specs.Said.{Check, _when_, judged, onValue}
+use Rattle.answers.specs.Answers.{at, ok, answerSays, nextFreeSays}
 use Rattle.answers.specs.declared.Answer.{Answer}
 use Rattle.answers.specs.declared.Answer.the-variants.{At, Done, Refused}
-use Rattle.answers.specs.declared.Refusal.{Refusal}
 use Rattle.answers.specs.declared.NextFree.{NextFree}
 use Rattle.slots.specs.Lowest.{lowest}
 use Rattle.slots.specs.Tries.{slotOrNone, freeFrom}
-use Rattle.slots.specs.Calls.{rangeChecks}
-use Rattle.layout.specs.Painting.{slotIn}
+use Rattle.slots.specs.Calls.{rangeChecks, takeCall, claimCall, freeCall}
+use Rattle.slots.specs.View.{answered}
+use Rattle.layout.specs.Painting.{slotIn, paintedWords}
+use Rattle.layout.specs.Sixteen.{touchedSummary}
 use Rattle.tree.specs.declared.Tree.{Tree}
 use Rattle.tree.specs.declared.Changed.{Changed}
 use Rattle.tree.specs.Layout.{treeOf, treeView}
@@ -27,14 +28,28 @@ treeChecks t start n = (1 when not (treeView .isSound t)) ∷ rangeChecks 10 sta
 abbrev pub RangeSays : List ℕ → ℕ → ℕ → ℕ → Answer → Type 0
 RangeSays words summary start n r = answerSays r ≡ judged (treeChecks (treeOf words summary) start n) ok
 
-abbrev pub refusedWith : Tree → Refusal → Changed
-refusedWith t why = record { answer = Refused why; map = t }
+-- what each call has judged: what is said of it
+abbrev pub ClaimJudged : List ℕ → ℕ → ℕ → ℕ → Answer → Type 0
+ClaimJudged words summary start n r = answerSays r ≡ answered treeView (treeOf words summary) (claimCall 10 (slotIn words) start n)
 
-abbrev pub doneWith : List ℕ → ℕ → Changed
-doneWith words summary = record { answer = Done; map = treeOf words summary }
+abbrev pub FreeJudged : List ℕ → ℕ → ℕ → ℕ → Answer → Type 0
+FreeJudged words summary start n r = answerSays r ≡ answered treeView (treeOf words summary) (freeCall 10 (slotIn words) start n)
 
-abbrev pub takenWith : ℕ → List ℕ → ℕ → Changed
-takenWith start words summary = record { answer = At start; map = treeOf words summary }
+abbrev pub TakeJudged : List ℕ → ℕ → ℕ → ℕ → NextFree → Type 0
+TakeJudged words summary n a r = onValue at (nextFreeSays r) ≡ answered treeView (treeOf words summary) (takeCall 10 (slotIn words) n a)
+
+-- the map with a run painted, and its summary brought up to date
+abbrev pub paintedTree : List ℕ → ℕ → ℕ → ℕ → Bool → Tree
+paintedTree words summary start n used = treeOf (paintedWords words start n used) (touchedSummary (paintedWords words start n used) summary start n)
+
+-- what is left where a call is judged so: on a refusal the very map
+abbrev pub leftBy : List ℕ → ℕ → Answer → ℕ → ℕ → Bool → Tree
+leftBy words summary (At o) start n used = paintedTree words summary start n used
+leftBy words summary Done start n used = paintedTree words summary start n used
+leftBy words summary (Refused why) start n used = treeOf words summary
+
+abbrev pub carriedOut : List ℕ → ℕ → Answer → ℕ → ℕ → Bool → Changed
+carriedOut words summary judged start n used = record { answer = judged; map = leftBy words summary judged start n used }
 
 abbrev pub NextFreeInSays : List ℕ → ℕ → NextFree → Type 0
 NextFreeInSays words start r = nextFreeSays r ≡ slotOrNone 10 (freeFrom 10 (slotIn words) start)

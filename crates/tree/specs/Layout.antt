@@ -1,5 +1,5 @@
 -- The view of the tree map: sixteen words of 64 slots under a summary. Rests on the construction of `slots` and on the sixteen words of `layout`.
-use mathlib.Core.Path.{_≡_, refl}
+use mathlib.Core.Path.{_≡_, refl, sym, fun-ext}
 use mathlib.Core.Logic.{_↔_}
 use mathlib.Core.Bool.{true}
 use mathlib.Core.List.{List}
@@ -10,6 +10,7 @@ use Rattle.slots.specs.Sets.{Slots}
 use Rattle.slots.specs.View.{View}
 use Rattle.slots.specs.Layouts.{Summed, digitsView, noDigits, underSummary, carried, seenAs}
 use Rattle.layout.specs.Painting.{slotIn}
+use Rattle.layout.specs.Sixteen.{slots-of-view}
 use Rattle.tree.specs.declared.Tree.{Tree}
 
 -- the words are the parts
@@ -27,8 +28,7 @@ abbrev pub slotOf : Tree → Slots
 slotOf t = slotIn (t .words)
 
 pub slots-seen : (t : Tree) → partedView .slotOf t ≡ slotOf t
-unfolding slotIn number
-slots-seen t = refl
+slots-seen t = fun-ext (λ s. sym (slots-of-view (parted t) s))
 
 abbrev pub treeView : View
 treeView = seenAs partedView slotOf slots-seen

@@ -10,12 +10,17 @@ use answers::Refusal;
 use answers::Truth;
 use layout::sixteen;
 ghost use Rattle.tree.specs.Contracts.{NewEmptySays, NewFullSays, WithSummarySays, WordsSays, SummarySays, TakeSays, ClaimSays, FreeSays, SetSays, NextFreeSays, GetSays, EmptySays, UsedSays, CapacitySays};
-ghost use Rattle.tree.specs.Inner.{SoundSays, RangeSays, refusedWith, doneWith, takenWith, NextFreeInSays, LowestStartSays};
+ghost use Rattle.tree.specs.Inner.{SoundSays, RangeSays, ClaimJudged, FreeJudged, TakeJudged, carriedOut, NextFreeInSays, LowestStartSays};
 ghost use Rattle.slots.specs.Tries.{nextTry};
 ghost use mathlib.Core.Path.{_≡_};
 ghost use Prim.Native.Nat.{_≤_, _<_};
 
 const CAPACITY: usize = 1024;
+
+// Where the masks of a run come from: claim and set read the table, take and free shift.
+const TABLE: bool = true;
+
+const SHIFTS: bool = false;
 
 // Slot s is bit s % 64 of word s / 64; 1 means used.
 pub struct Tree {
@@ -76,74 +81,41 @@ impl Tree {
     pub fn take(self, n: usize, a: usize) -> Changed
         ensures { λ r. ⌜ TakeSays self n a r ⌝ }
     {
-        if !sound(&self.words, self.summary) {
-            return refused(self, Refusal::Unsound);
+        let found = judged_take(&self.words, self.summary, n, a);
+        match found {
+            NextFree::Refused(why) => Changed {
+                answer: Answer::Refused(why),
+                map: self,
+            },
+            NextFree::At(start) => {
+                let granted = Answer::At(start);
+                carried_out(&self.words, self.summary, granted, start, n, true, SHIFTS)
+            }
         }
-        if n == 0 {
-            return refused(self, Refusal::NoEntries);
-        }
-        if 10 <= a {
-            return refused(self, Refusal::AlignmentTooGreat);
-        }
-        if CAPACITY < n {
-            return refused(self, Refusal::PastTheEnd);
-        }
-        let found = lowest_start(&self.words, n, a);
-        let NextFree::At(start) = found else {
-            return refused(self, Refusal::NoRoom);
-        };
-        let mut marked = self.words;
-        sixteen::paint(&mut marked, start, n, true);
-        let summary = sixteen::touched(&marked, self.summary, start, n);
-        taken(start, marked, summary)
     }
 
     // Claims the n slots from `start` on, each of which must be free.
     pub fn claim(self, start: usize, n: usize) -> Changed
         ensures { λ r. ⌜ ClaimSays self start n r ⌝ }
     {
-        let range = judged_range(&self.words, self.summary, start, n);
-        if let Answer::Refused(why) = range {
-            return refused(self, why);
-        }
-        if !sixteen::all_free(&self.words, start, n) {
-            return refused(self, Refusal::AlreadyUsed);
-        }
-        let mut claimed = self.words;
-        sixteen::paint_by_table(&mut claimed, start, n, true);
-        let summary = sixteen::touched(&claimed, self.summary, start, n);
-        done(claimed, summary)
+        let judged = judged_claim(&self.words, self.summary, start, n);
+        carried_out(&self.words, self.summary, judged, start, n, true, TABLE)
     }
 
     // Frees the n slots from `start` on, each of which must be used.
     pub fn free(self, start: usize, n: usize) -> Changed
         ensures { λ r. ⌜ FreeSays self start n r ⌝ }
     {
-        let range = judged_range(&self.words, self.summary, start, n);
-        if let Answer::Refused(why) = range {
-            return refused(self, why);
-        }
-        if !sixteen::all_used(&self.words, start, n) {
-            return refused(self, Refusal::AlreadyFree);
-        }
-        let mut freed = self.words;
-        sixteen::paint(&mut freed, start, n, false);
-        let summary = sixteen::touched(&freed, self.summary, start, n);
-        done(freed, summary)
+        let judged = judged_free(&self.words, self.summary, start, n);
+        carried_out(&self.words, self.summary, judged, start, n, false, SHIFTS)
     }
 
     // Gives the n slots from `start` on the value `used`, whatever they held.
     pub fn set(self, start: usize, n: usize, used: bool) -> Changed
         ensures { λ r. ⌜ SetSays self start n used r ⌝ }
     {
-        let range = judged_range(&self.words, self.summary, start, n);
-        if let Answer::Refused(why) = range {
-            return refused(self, why);
-        }
-        let mut given = self.words;
-        sixteen::paint_by_table(&mut given, start, n, used);
-        let summary = sixteen::touched(&given, self.summary, start, n);
-        done(given, summary)
+        let judged = judged_range(&self.words, self.summary, start, n);
+        carried_out(&self.words, self.summary, judged, start, n, used, TABLE)
     }
 
     // The least free slot from `start` on.
@@ -227,31 +199,84 @@ fn judged_range(words: &[u64; 16], summary: u16, start: usize, n: usize) -> Answ
     Answer::Done
 }
 
-// The very map, with the refusal.
-fn refused(map: Tree, why: Refusal) -> Changed
-    ensures { λ r. ⌜ r ≡ refusedWith map why ⌝ }
+// Done where claim accepts, and else its refusal.
+fn judged_claim(words: &[u64; 16], summary: u16, start: usize, n: usize) -> Answer
+    ensures { λ r. ⌜ ClaimJudged (now (words .entry)) summary start n r ⌝ }
 {
-    Changed {
-        answer: Answer::Refused(why),
-        map,
+    let range = judged_range(words, summary, start, n);
+    if let Answer::Refused(why) = range {
+        return Answer::Refused(why);
     }
+    if !sixteen::all_free(words, start, n) {
+        return Answer::Refused(Refusal::AlreadyUsed);
+    }
+    Answer::Done
 }
 
-fn done(words: [u64; 16], summary: u16) -> Changed
-    ensures { λ r. ⌜ r ≡ doneWith words summary ⌝ }
+// Done where free accepts, and else its refusal.
+fn judged_free(words: &[u64; 16], summary: u16, start: usize, n: usize) -> Answer
+    ensures { λ r. ⌜ FreeJudged (now (words .entry)) summary start n r ⌝ }
 {
-    Changed {
-        answer: Answer::Done,
-        map: Tree { words, summary },
+    let range = judged_range(words, summary, start, n);
+    if let Answer::Refused(why) = range {
+        return Answer::Refused(why);
     }
+    if !sixteen::all_used(words, start, n) {
+        return Answer::Refused(Refusal::AlreadyFree);
+    }
+    Answer::Done
 }
 
-fn taken(start: usize, words: [u64; 16], summary: u16) -> Changed
-    ensures { λ r. ⌜ r ≡ takenWith start words summary ⌝ }
+// The start that take grants, or its refusal.
+fn judged_take(words: &[u64; 16], summary: u16, n: usize, a: usize) -> NextFree
+    ensures { λ r. ⌜ TakeJudged (now (words .entry)) summary n a r ⌝ }
 {
+    if !sound(words, summary) {
+        return NextFree::Refused(Refusal::Unsound);
+    }
+    if n == 0 {
+        return NextFree::Refused(Refusal::NoEntries);
+    }
+    if 10 <= a {
+        return NextFree::Refused(Refusal::AlignmentTooGreat);
+    }
+    if CAPACITY < n {
+        return NextFree::Refused(Refusal::PastTheEnd);
+    }
+    lowest_start(words, n, a)
+}
+
+// What a judged call comes to: on a refusal the very map, and else the map in which the n slots from
+// `start` on have the value `used`, with the summary brought up to date for every word they reach.
+fn carried_out(
+    words: &[u64; 16],
+    summary: u16,
+    judged: Answer,
+    start: usize,
+    n: usize,
+    used: bool,
+    table: bool,
+) -> Changed
+    ensures { λ r. ⌜ r ≡ carriedOut (now (words .entry)) summary judged start n used ⌝ }
+{
+    let mut left = *words;
+    if let Answer::Refused(why) = judged {
+        return Changed {
+            answer: Answer::Refused(why),
+            map: Tree {
+                words: left,
+                summary,
+            },
+        };
+    }
+    sixteen::paint(&mut left, start, n, used, table);
+    let updated = sixteen::touched(&left, summary, start, n);
     Changed {
-        answer: Answer::At(start),
-        map: Tree { words, summary },
+        answer: judged,
+        map: Tree {
+            words: left,
+            summary: updated,
+        },
     }
 }
 

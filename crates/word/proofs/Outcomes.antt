@@ -1,17 +1,18 @@
 -- What a call on a word has to show at each way out, from what was said of its set. Assumes nothing.
-use mathlib.Core.Path.{_≡_, sym, ap, _∙_}
+use mathlib.Core.Path.{_≡_, refl, sym, ap, _∙_}
 use mathlib.Core.Bool.{Bool}
 use mathlib.Core.List.{[], _∷_}
 use Prim.Native.Nat.{ℕ, _+_, _≤_}
 use types.Run.{OneOf}
 use denote.Enum.Declared.{tagOf}
 use Rattle.answers.proofs.Answer.{the-type}
-use Rattle.answers.proofs.Judging.{passed}
-use Rattle.answers.specs.Said.{value, refused}
+use Rattle.answers.proofs.Judging.{passed, not-refused}
+use Rattle.answers.specs.Said.{value, refused, value≢refused}
 use Rattle.answers.specs.Refusals.{numberOf}
 use Rattle.answers.specs.Answers.{Reply, at, ok, answerSays}
 use Rattle.answers.specs.declared.Refusal.{Refusal}
 use Rattle.answers.specs.declared.Answer.{Answer}
+use Rattle.answers.specs.declared.Answer.the-variants.{At, Done, Refused}
 use Rattle.bits.specs.Digits.{digit}
 use Rattle.one_word.specs.OneWord.{runMask, freeIn, usedIn, paintedIn, free-run, used-run, painted-run}
 use Rattle.slots.specs.Sets.{allFree, allUsed, painted}
@@ -21,22 +22,8 @@ use Rattle.slots.specs.View.{sound-refused, sound-accepted}
 use Rattle.word.specs.declared.Word.{Word}
 use Rattle.word.specs.declared.Changed.{Changed}
 use Rattle.word.specs.Layout.{ofSlots, wordView}
-use Rattle.word.specs.Inner.{RangeSays, refusedWith, doneWith, takenWith}
+use Rattle.word.specs.Inner.{RangeSays, carriedOut}
 use Rattle.word.specs.Contracts.{Leaves}
-
-module _ (w : Word) (call : Call Reply) (r : Changed) where
-  pub refusing : (why : Refusal) → r ≡ refusedWith w why → says call ≡ refused (numberOf why) → Leaves w call r
-  refusing why e said = ap (λ (out : Changed). (answerSays (out .answer), out .map)) e ∙ sym (sound-refused wordView w call (numberOf why) tt said)
-
-  pub finishing : (bits : ℕ) → r ≡ doneWith bits → says call ≡ value ok → record { bits = bits } ≡ ofSlots (call .after) → Leaves w call r
-  finishing bits e said left =
-      ap (λ (out : Changed). (answerSays (out .answer), out .map)) e ∙ ap (λ (map : Word). (value ok, map)) left
-      ∙ sym (sound-accepted wordView w call ok tt said)
-
-  pub granting : (start bits : ℕ) → r ≡ takenWith start bits → says call ≡ value (at start) → record { bits = bits } ≡ ofSlots (call .after) → Leaves w call r
-  granting start bits e said left =
-      ap (λ (out : Changed). (answerSays (out .answer), out .map)) e ∙ ap (λ (map : Word). (value (at start), map)) left
-      ∙ sym (sound-accepted wordView w call (at start) tt said)
 
 -- ---- the run's slots as the masked word shows them
 
@@ -51,8 +38,29 @@ module _ (word mask s n : ℕ) (ends : s + n ≤ 64) (run : mask ≡ runMask s n
   pub used-shown : flag ≡ usedIn word mask → flag ≡ allUsed (digit word) s n
   used-shown e = e ∙ ap (usedIn word) run ∙ used-run word s n ends
 
--- the painted word is the word of the painted set
-pub painted-word : (word mask left s n : ℕ) (v : Bool) → mask ≡ runMask s n → left ≡ paintedIn word mask v
-    → _≡_ {A = Word} (record { bits = left }) (ofSlots (painted (digit word) s n v))
-painted-word word mask left s n v run e =
-    ap (λ (b : ℕ). record { bits = b }) (e ∙ ap (λ (m : ℕ). paintedIn word m v) run ∙ painted-run word s n v)
+-- ---- a judged call, carried out, is as its contract has it
+
+-- what is left where nothing was refused
+pub left-accepted : (judge : Answer) → OneOf (0 ∷ 1 ∷ []) (tagOf the-type judge) → (bits mask painted : ℕ) (v : Bool) → painted ≡ paintedIn bits mask v
+    → _≡_ {A = Changed} (record { answer = judge; map = record { bits = painted } }) (carriedOut bits judge mask v)
+left-accepted (At o) kept bits mask painted v e = ap (λ (b : ℕ). record { answer = At o; map = record { bits = b } }) e
+left-accepted Done kept bits mask painted v e = ap (λ (b : ℕ). record { answer = Done; map = record { bits = b } }) e
+left-accepted (Refused why) kept bits mask painted v e = absurd (value≢refused _ _ (sym (not-refused (Refused why) kept .1)))
+
+module _ (w : Word) (call : Call Reply) (r : Changed) where
+  pub refusing : (why : Refusal) → r ≡ record { answer = Refused why; map = w } → says call ≡ refused (numberOf why) → Leaves w call r
+  refusing why e said = ap (λ (out : Changed). (answerSays (out .answer), out .map)) e ∙ sym (sound-refused wordView w call (numberOf why) tt said)
+
+  module _ (mask s n : ℕ) (v : Bool) (run : mask ≡ runMask s n) (after : call .after ≡ painted (digit (w .bits)) s n v) where
+    accepting : (judge : Answer) (reply : Reply) → value reply ≡ says call → answerSays judge ≡ value reply
+        → r ≡ record { answer = judge; map = record { bits = paintedIn (w .bits) mask v } } → Leaves w call r
+    accepting judge reply told is e =
+        ap (λ (out : Changed). (answerSays (out .answer), out .map)) e
+        ∙ (λ i. (is i, record { bits = (ap (λ (m : ℕ). paintedIn (w .bits) m v) run ∙ painted-run (w .bits) s n v) i }))
+        ∙ ap (λ S. (value reply, ofSlots S)) (sym after)
+        ∙ sym (sound-accepted wordView w call reply tt (sym told))
+
+    pub carries : (judge : Answer) → answerSays judge ≡ says call → r ≡ carriedOut (w .bits) judge mask v → Leaves w call r
+    carries (At o) told e = accepting (At o) (at o) told refl e
+    carries Done told e = accepting Done ok told refl e
+    carries (Refused why) told e = refusing why e (sym told)

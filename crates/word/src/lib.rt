@@ -5,8 +5,9 @@ use answers::NextFree;
 use answers::Refusal;
 use answers::Truth;
 ghost use Rattle.word.specs.Contracts.{NewEmptySays, NewFullSays, TakeSays, ClaimSays, FreeSays, SetSays, NextFreeSays, GetSays, EmptySays, UsedSays, CapacitySays};
-ghost use Rattle.word.specs.Inner.{RangeSays, refusedWith, doneWith, takenWith, NextFreeInSays, LowestStartSays};
+ghost use Rattle.word.specs.Inner.{RangeSays, ClaimJudged, FreeJudged, TakeJudged, carriedOut, NextFreeInSays, LowestStartSays};
 ghost use Rattle.slots.specs.Tries.{nextTry};
+ghost use Rattle.one_word.specs.OneWord.{runMask};
 ghost use mathlib.Core.Path.{_≡_};
 ghost use Prim.Native.Nat.{_≤_, _<_};
 
@@ -42,66 +43,44 @@ impl Word {
     pub fn take(self, n: usize, a: usize) -> Changed
         ensures { λ r. ⌜ TakeSays self n a r ⌝ }
     {
-        if n == 0 {
-            return refused(self, Refusal::NoEntries);
+        let found = judged_take(self.bits, n, a);
+        match found {
+            NextFree::Refused(why) => Changed {
+                answer: Answer::Refused(why),
+                map: self,
+            },
+            NextFree::At(start) => {
+                let granted = Answer::At(start);
+                carried_out(self.bits, granted, one_word::run_mask(start, n), true)
+            }
         }
-        if 6 <= a {
-            return refused(self, Refusal::AlignmentTooGreat);
-        }
-        if CAPACITY < n {
-            return refused(self, Refusal::PastTheEnd);
-        }
-        let found = lowest_start(self.bits, n, a);
-        let NextFree::At(start) = found else {
-            return refused(self, Refusal::NoRoom);
-        };
-        let run = one_word::run_mask(start, n);
-        taken(start, one_word::mark(self.bits, run))
     }
 
     // Claims the n slots from `start` on, each of which must be free.
     pub fn claim(self, start: usize, n: usize) -> Changed
         ensures { λ r. ⌜ ClaimSays self start n r ⌝ }
     {
-        let range = judged_range(start, n);
-        if let Answer::Refused(why) = range {
-            return refused(self, why);
-        }
-        let mask = one_word::table_mask(start, n);
-        if !one_word::all_free(self.bits, mask) {
-            return refused(self, Refusal::AlreadyUsed);
-        }
-        done(one_word::mark(self.bits, mask))
+        let claimed = one_word::table_mask(start, n);
+        let judged = judged_claim(self.bits, claimed, start, n);
+        carried_out(self.bits, judged, claimed, true)
     }
 
     // Frees the n slots from `start` on, each of which must be used.
     pub fn free(self, start: usize, n: usize) -> Changed
         ensures { λ r. ⌜ FreeSays self start n r ⌝ }
     {
-        let range = judged_range(start, n);
-        if let Answer::Refused(why) = range {
-            return refused(self, why);
-        }
-        let mask = one_word::run_mask(start, n);
-        if !one_word::all_used(self.bits, mask) {
-            return refused(self, Refusal::AlreadyFree);
-        }
-        done(one_word::unmark(self.bits, mask))
+        let freed = one_word::run_mask(start, n);
+        let judged = judged_free(self.bits, freed, start, n);
+        carried_out(self.bits, judged, freed, false)
     }
 
     // Gives the n slots from `start` on the value `used`, whatever they held.
     pub fn set(self, start: usize, n: usize, used: bool) -> Changed
         ensures { λ r. ⌜ SetSays self start n used r ⌝ }
     {
-        let range = judged_range(start, n);
-        if let Answer::Refused(why) = range {
-            return refused(self, why);
-        }
-        let painted = one_word::table_mask(start, n);
-        if used {
-            return done(one_word::mark(self.bits, painted));
-        }
-        done(one_word::unmark(self.bits, painted))
+        let given = one_word::table_mask(start, n);
+        let judged = judged_range(start, n);
+        carried_out(self.bits, judged, given, used)
     }
 
     // The least free slot from `start` on.
@@ -163,22 +142,69 @@ fn judged_range(start: usize, n: usize) -> Answer
     Answer::Done
 }
 
-// The very map, with the refusal.
-fn refused(map: Word, why: Refusal) -> Changed
-    ensures { λ r. ⌜ r ≡ refusedWith map why ⌝ }
+// Done where claim accepts, and else its refusal; the mask is the run's.
+fn judged_claim(bits: u64, mask: u64, start: usize, n: usize) -> Answer
+    requires { ⌜ mask ≡ runMask start n ⌝ }
+    ensures { λ r. ⌜ ClaimJudged bits start n r ⌝ }
 {
-    Changed {
-        answer: Answer::Refused(why),
-        map,
+    let range = judged_range(start, n);
+    if let Answer::Refused(why) = range {
+        return Answer::Refused(why);
     }
+    if !one_word::all_free(bits, mask) {
+        return Answer::Refused(Refusal::AlreadyUsed);
+    }
+    Answer::Done
 }
 
-fn done(bits: u64) -> Changed
-    ensures { λ r. ⌜ r ≡ doneWith bits ⌝ }
+// Done where free accepts, and else its refusal; the mask is the run's.
+fn judged_free(bits: u64, mask: u64, start: usize, n: usize) -> Answer
+    requires { ⌜ mask ≡ runMask start n ⌝ }
+    ensures { λ r. ⌜ FreeJudged bits start n r ⌝ }
 {
+    let range = judged_range(start, n);
+    if let Answer::Refused(why) = range {
+        return Answer::Refused(why);
+    }
+    if !one_word::all_used(bits, mask) {
+        return Answer::Refused(Refusal::AlreadyFree);
+    }
+    Answer::Done
+}
+
+// The start that take grants, or its refusal.
+fn judged_take(bits: u64, n: usize, a: usize) -> NextFree
+    ensures { λ r. ⌜ TakeJudged bits n a r ⌝ }
+{
+    if n == 0 {
+        return NextFree::Refused(Refusal::NoEntries);
+    }
+    if 6 <= a {
+        return NextFree::Refused(Refusal::AlignmentTooGreat);
+    }
+    if CAPACITY < n {
+        return NextFree::Refused(Refusal::PastTheEnd);
+    }
+    lowest_start(bits, n, a)
+}
+
+// What a judged call comes to: on a refusal the very map, and else the map in which each place of the
+// mask has the value `used`.
+fn carried_out(bits: u64, judged: Answer, mask: u64, used: bool) -> Changed
+    ensures { λ r. ⌜ r ≡ carriedOut bits judged mask used ⌝ }
+{
+    if let Answer::Refused(why) = judged {
+        return Changed {
+            answer: Answer::Refused(why),
+            map: Word { bits },
+        };
+    }
+    let map = Word {
+        bits: one_word::paint(bits, mask, used),
+    };
     Changed {
-        answer: Answer::Done,
-        map: Word { bits },
+        answer: judged,
+        map,
     }
 }
 
@@ -225,13 +251,4 @@ fn next_try(start: usize, free: usize, a: usize) -> usize
         return ((start >> a) + 1) << a;
     }
     (((free - 1) >> a) + 1) << a
-}
-
-fn taken(start: usize, bits: u64) -> Changed
-    ensures { λ r. ⌜ r ≡ takenWith start bits ⌝ }
-{
-    Changed {
-        answer: Answer::At(start),
-        map: Word { bits },
-    }
 }

@@ -1,87 +1,26 @@
--- `tree::Tree::claim` meets its contract: the refusals of the tree and of the range, then 6 where a named slot is used, and else the run is painted. Assumes nothing.
-use mathlib.Core.Path.{sym, ap, _∙_}
-use mathlib.Core.Bool.{true, not}
+-- `tree::Tree::claim` meets its contract: what was judged, carried out. Assumes nothing.
+use mathlib.Core.Bool.{true}
 use borrow.Author.Needs.{needs}
-use Rattle.answers.proofs.Judging.{refused-first, passed-on}
-use Rattle.answers.specs.Said.{judged-found, judged-passed}
-use Rattle.answers.specs.Answers.{ok}
-use Rattle.slots.specs.Calls.{claimCall}
-use Rattle.slots.specs.View.{answered}
-use Rattle.tree.specs.Inner.{treeChecks}
+use Rattle.slots.specs.Promises.{claim-after}
+use Rattle.tree.specs.Layout.{slotOf}
 use Rattle.tree.proofs.Values.{is-tree}
-use Rattle.tree.proofs.Outcomes.{refusing, finishing, range-sound, painted-tree}
+use Rattle.tree.proofs.Outcomes.{carries}
 use Rattle.tree.proofs.Tree.claim.Statement.{statement}
 use Rattle.tree.proofs.Tree.claim.Tie as tie
 
-judged-range-requires : tie.Need-judged-range-requires
-judged-range-requires c κs = search needs
+judged-claim-requires : tie.Need-judged-claim-requires
+judged-claim-requires c κs = search needs
 
-enum-known-range : tie.Need-enum-known-range
-enum-known-range c = search needs
-
-refused-requires : tie.Need-refused-requires
-refused-requires c κs = search needs
+carried-out-requires : tie.Need-carried-out-requires
+carried-out-requires c κs = search needs
 
 returns : tie.Need-returns
-unfolding answered claimCall
 returns c =
-    let known = c .before .before in
-    let judging = known .before .before in
-    let asked = judging .before .before .before .args in
-    refusing (asked .t1) _ _ _ (c .refused .ensures)
-    (refused-first (treeChecks (asked .t1) (asked .start) (asked .n)) (judging .judged-range .result) (judging .judged-range .ensures) _ ok _ (known .range .given .1))
-
-all-free-requires : tie.Need-all-free-requires
-all-free-requires c κs = search needs
-
-refused-requires-2 : tie.Need-refused-requires-2
-refused-requires-2 c κs = search needs
-
-returns-2 : tie.Need-returns-2
-unfolding answered claimCall
-returns-2 c =
-    let tested = c .before .before in
-    let passing = tested .before .before .before in
-    let judging = passing .before in
+    let judging = c .before .before .before in
     let entry = judging .before .before .before in
     let asked = entry .args in
     let t = asked .t1 in
-    let checks = treeChecks t (asked .start) (asked .n) in
-    let range = judging .judged-range .result in
-    let told = judging .judged-range .ensures in
-    refusing t _ _ _ (c .refused2 .ensures)
-    (passed-on checks range told (passing .match .keys2) _ ok ∙ judged-found 6 _ ok (ap not (sym (tested .all-free .ensures)) ∙ c .before .if1 .taken))
-
-paint-by-table-requires : tie.Need-paint-by-table-requires
-paint-by-table-requires c κs = search needs
-
-touched-requires : tie.Need-touched-requires
-touched-requires c κs = search needs
-
-done-requires : tie.Need-done-requires
-done-requires c κs = search needs
-
-returns-3 : tie.Need-returns-3
-unfolding answered claimCall
-returns-3 c =
-    let summing = c .before in
-    let painting = summing .before .before in
-    let branch = painting .before .before .before in
-    let tested = branch .before in
-    let passing = tested .before .before .before in
-    let judging = passing .before in
-    let entry = judging .before .before .before in
-    let asked = entry .args in
-    let t = asked .t1 in
-    let checks = treeChecks t (asked .start) (asked .n) in
-    let range = judging .judged-range .result in
-    let told = judging .judged-range .ensures in
-    let held = is-tree t (entry .good .0) in
-    let right = range-sound t (asked .start) (asked .n) (held .summary-fits) range told (passing .match .keys2) in
-    finishing t _ _ _ _ (painted-tree t held right (asked .start) (asked .n) true _ _ (painting .paint-by-table .ensures) (summing .touched .ensures)) (c .done .ensures)
-    (passed-on checks range told (passing .match .keys2) _ ok ∙ judged-passed 6 _ ok (ap not (sym (tested .all-free .ensures)) ∙ branch .if1 .left))
+    carries t _ _ (is-tree t (entry .good .0)) (asked .start) (asked .n) true (claim-after 10 (slotOf t) (asked .start) (asked .n)) (judging .judged-claim .result) (judging .judged-claim .ensures) (c .carried-out .ensures)
 
 pub claim-spec : {M : Type 1} → statement M
-claim-spec =
-    tie.close
-    (tie.spec judged-range-requires enum-known-range refused-requires returns all-free-requires refused-requires-2 returns-2 paint-by-table-requires touched-requires done-requires returns-3)
+claim-spec = tie.close (tie.spec judged-claim-requires carried-out-requires returns)

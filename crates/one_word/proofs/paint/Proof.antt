@@ -1,10 +1,10 @@
--- `layout::sixteen::painted` meets its contract: the value decides which of the two it is. Assumes nothing.
+-- `one_word::paint` meets its contract: the value decides which of the two it is. Assumes nothing.
 use mathlib.Core.Path.{sym, ap, _∙_}
 use mathlib.Core.Bool.{Bool}
 use borrow.Author.Needs.{needs}
 use Rattle.one_word.specs.OneWord.{paintedIn}
-use Rattle.layout.proofs.sixteen.painted.Statement.{statement}
-use Rattle.layout.proofs.sixteen.painted.Tie as tie
+use Rattle.one_word.proofs.paint.Statement.{statement}
+use Rattle.one_word.proofs.paint.Tie as tie
 
 mark-requires : tie.Need-mark-requires
 mark-requires c κs = search needs
@@ -22,5 +22,5 @@ returns-2 c =
     let asked = c .before .before .args in
     c .unmark .ensures ∙ ap (λ (v : Bool). paintedIn (asked .word) (asked .mask) v) (sym (c .before .if1 .left))
 
-pub painted-spec : {M : Type 1} → statement M
-painted-spec = tie.close (tie.spec mark-requires returns unmark-requires returns-2)
+pub paint-spec : {M : Type 1} → statement M
+paint-spec = tie.close (tie.spec mark-requires returns unmark-requires returns-2)

@@ -1,4 +1,4 @@
--- `layout::sixteen::paint_with` meets its contract: before each word, those before it are painted. Assumes nothing.
+-- `layout::sixteen::paint` meets its contract: before each word, those before it are painted. Assumes nothing.
 use mathlib.Core.Path.{_≡_, sym, ap, _∙_}
 use Prim.Native.Nat.{_+_, _-_, _*_, _/_, _≤_}
 use native.Mathlib.Omega.{arith}
@@ -6,8 +6,8 @@ use borrow.Author.Needs.{needs}
 use Rattle.layout.specs.Painting.{endIn, paintedFirst, paintedWords}
 use Rattle.layout.specs.Painting.{paint-none, paint-rest}
 use Rattle.layout.proofs.Words.{end-most, paint-step}
-use Rattle.layout.proofs.sixteen.paint_with.Statement.{statement}
-use Rattle.layout.proofs.sixteen.paint_with.Tie as tie
+use Rattle.layout.proofs.sixteen.paint.Statement.{statement}
+use Rattle.layout.proofs.sixteen.paint.Tie as tie
 
 abbrev Inv-loop : tie.InvT-loop
 Inv-loop words₀ start n used table end i₀ words i = (start / 64 ≤ i) × (i ≤ 16) × (words ≡ paintedFirst words₀ start (endIn start n) used i)
@@ -32,17 +32,17 @@ loop-holds c =
 mul-loop : tie.Need-mul-loop Inv-loop μ-loop
 mul-loop c = omega (arith, c .loop .inv .1)
 
-mul-painted : tie.Need-mul-painted Inv-loop μ-loop
-mul-painted c = omega (arith, c .before .loop .inv .1)
+mul-paint : tie.Need-mul-paint Inv-loop μ-loop
+mul-paint c = omega (arith, c .before .loop .inv .1)
 
-element-copy-out-painted : tie.Need-element-copy-out-painted Inv-loop μ-loop
-element-copy-out-painted c = omega (arith, end-most _ _ _ (c .before .before .end-of .ensures))
+element-copy-out-paint : tie.Need-element-copy-out-paint Inv-loop μ-loop
+element-copy-out-paint c = omega (arith, end-most _ _ _ (c .before .before .end-of .ensures))
 
 part-mask-requires : tie.Need-part-mask-requires Inv-loop μ-loop
 part-mask-requires c κs = (omega arith, end-most _ _ _ (c .before .before .before .end-of .ensures))
 
-painted-requires : tie.Need-painted-requires Inv-loop μ-loop
-painted-requires c κs = search needs
+paint-requires : tie.Need-paint-requires Inv-loop μ-loop
+paint-requires c κs = search needs
 
 mul-words : tie.Need-mul-words Inv-loop μ-loop
 mul-words c = omega (arith, c .before .before .before .before .loop .inv .1)
@@ -66,7 +66,7 @@ loop-again c =
       omega (arith, inv .0),
       omega (arith, end-most _ _ _ (ending .end-of .ensures)),
       paint-step (asked .words .now) (asked .start) (endIn (asked .start) (asked .n)) (asked .used) (at-head .loop .words) (at-head .loop .i) (ending .end-of .result) _ _
-          (inv .0) (omega arith) (inv .2) (ending .end-of .ensures) (masked .part-mask .ensures) (c .painted .ensures),
+          (inv .0) (omega arith) (inv .2) (ending .end-of .ensures) (masked .part-mask .ensures) (c .paint .ensures),
     )
 
 returns-2 : tie.Need-returns-2 Inv-loop μ-loop
@@ -82,7 +82,7 @@ returns-2 c =
     let rest : 16 - i + i ≡ 16 = omega (arith, inv .1) in
     inv .2 ∙ paint-rest (asked .words .now) (asked .start) e (asked .used) i (16 - i) past ∙ ap (paintedFirst (asked .words .now) (asked .start) e (asked .used)) rest
 
-pub paint-with-spec : {M : Type 1} → statement M
-paint-with-spec =
+pub paint-spec : {M : Type 1} → statement M
+paint-spec =
     tie.close
-    (tie.spec Inv-loop μ-loop returns end-of-requires loop-holds mul-loop mul-painted element-copy-out-painted part-mask-requires painted-requires mul-words element-write-words add-i loop-less loop-again returns-2)
+    (tie.spec Inv-loop μ-loop returns end-of-requires loop-holds mul-loop mul-paint element-copy-out-paint part-mask-requires paint-requires mul-words element-write-words add-i loop-less loop-again returns-2)
