@@ -96,6 +96,30 @@ module _ (L : View) where
   beforeOf m [] = []
   beforeOf m (c ∷ cs) = kept m (made m c .0) (beforeOf (made m c .1) cs)
 
+  -- ---- a series as it was run: each outcome says and leaves what its call does on the map that the one before left
+
+  module _ (Out : Type 0) (said : Out → Said Reply) (left : Out → L .Map) where
+    abbrev pub Ran : L .Map → List Asked → List Out → Type 0
+    Ran m [] [] = Unit {0}
+    Ran m [] (r ∷ rs) = ⊥
+    Ran m (c ∷ cs) [] = ⊥
+    Ran m (c ∷ cs) (r ∷ rs) = _≡_ {A = Said Reply × L .Map} (said r, left r) (made m c) × Ran (left r) cs rs
+
+    -- so its answers and its maps are those of the series
+    pub ran-answers : (m : L .Map) (cs : List Asked) (rs : List Out) → Ran m cs rs → map said rs ≡ answersOf m cs
+    ran-answers m [] [] ran = refl
+    ran-answers m [] (r ∷ rs) ran = absurd ran
+    ran-answers m (c ∷ cs) [] ran = absurd ran
+    ran-answers m (c ∷ cs) (r ∷ rs) ran =
+        λ i. ran .0 i .0 ∷ (ran-answers (left r) cs rs (ran .1) ∙ ap (λ (next : L .Map). answersOf next cs) (ap (λ out. out .1) (ran .0))) i
+
+    pub ran-maps : (m : L .Map) (cs : List Asked) (rs : List Out) → Ran m cs rs → map left rs ≡ mapsOf m cs
+    ran-maps m [] [] ran = refl
+    ran-maps m [] (r ∷ rs) ran = absurd ran
+    ran-maps m (c ∷ cs) [] ran = absurd ran
+    ran-maps m (c ∷ cs) (r ∷ rs) ran =
+        λ i. ran .0 i .1 ∷ (ran-maps (left r) cs rs (ran .1) ∙ ap (λ (next : L .Map). mapsOf next cs) (ap (λ out. out .1) (ran .0))) i
+
   -- ---- two series, one after the other
 
   answers-then : (m : L .Map) (cs ds : List Asked) → answersOf m (cs ++ ds) ≡ answersOf m cs ++ answersOf (lastOf m cs) ds

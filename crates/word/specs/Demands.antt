@@ -1,6 +1,6 @@
 -- The owner's three demands, of the word map: said of every outcome that a contract allows. Each cites the laws of `slots`. The one
 -- hypothesis is that the word is a value of its type.
-use mathlib.Core.Path.{_≡_, refl, sym, ap, _∙_}
+use mathlib.Core.Path.{_≡_, sym, ap, _∙_}
 use mathlib.Core.Logic.{_↔_}
 use mathlib.Core.Bool.{Bool, true, false}
 use mathlib.Core.List.{List, [], _∷_, map, Perm}
@@ -98,25 +98,18 @@ module _ (w : Word) where
 
 -- a series as it was run: each outcome is one that its call's contract allows, on the map that the one before left
 abbrev pub Ran : Word → List Asked → List Changed → Type 0
-Ran m [] [] = Unit {0}
-Ran m [] (r ∷ rs) = ⊥
-Ran m (c ∷ cs) [] = ⊥
-Ran m (c ∷ cs) (r ∷ rs) = Leaves m (callOf 6 (slotOf m) c) r × Ran (r .map) cs rs
+Ran = Series.Ran wordView Changed (λ r. answerSays (r .answer)) (λ r. r .map)
 
 -- so its answers and its maps are those of the series, of which the rest speaks
 pub ran-answers : (m : Word) (cs : List Asked) (rs : List Changed) → Ran m cs rs → map (λ r. answerSays (r .answer)) rs ≡ answersOf wordView m cs
-ran-answers m [] [] ran = refl
-ran-answers m [] (r ∷ rs) ran = absurd ran
-ran-answers m (c ∷ cs) [] ran = absurd ran
-ran-answers m (c ∷ cs) (r ∷ rs) ran =
-    λ i. ran .0 i .0 ∷ (ran-answers (r .map) cs rs (ran .1) ∙ ap (λ (next : Word). answersOf wordView next cs) (ap (λ out. out .1) (ran .0))) i
+ran-answers = Series.ran-answers wordView Changed (λ r. answerSays (r .answer)) (λ r. r .map)
 
 pub ran-maps : (m : Word) (cs : List Asked) (rs : List Changed) → Ran m cs rs → map (λ r. r .map) rs ≡ mapsOf wordView m cs
-ran-maps m [] [] ran = refl
-ran-maps m [] (r ∷ rs) ran = absurd ran
-ran-maps m (c ∷ cs) [] ran = absurd ran
-ran-maps m (c ∷ cs) (r ∷ rs) ran =
-    λ i. ran .0 i .1 ∷ (ran-maps (r .map) cs rs (ran .1) ∙ ap (λ (next : Word). mapsOf wordView next cs) (ap (λ out. out .1) (ran .0))) i
+ran-maps = Series.ran-maps wordView Changed (λ r. answerSays (r .answer)) (λ r. r .map)
+
+-- a call by its contract is such an outcome
+pub a-call-runs : (m : Word) (c : Asked) (r : Changed) → Leaves m (callOf 6 (slotOf m) c) r → Ran m (c ∷ []) (r ∷ [])
+a-call-runs m c r outcome = (outcome, tt)
 
 module _ (m : Word) (held : IsWord m) (cs : List Asked) where
   -- walk the record backward from the last map, freeing what was taken or claimed and claiming what was freed: each step is accepted and restores the map
