@@ -1,0 +1,80 @@
+// Many records in one run, for comparisons: each record on standard input has its length before it,
+// in four bytes, low byte first, and what the program slotmap would write for it goes to standard
+// output in the same way. It ends with its input, or where a record is longer than it can hold.
+use libc::STDIN_FILENO;
+use libc::STDOUT_FILENO;
+ghost use Prim.Native.Nat.{_≤_, _<_};
+ghost use lib.ListN.{length};
+
+// How long the next record is, or that there is none.
+struct Next {
+    count: usize,
+    ended: bool,
+}
+
+fn main() {
+    let mut record = io::large_buffer();
+    let mut text = [0u8; 54624];
+    // A loop has to end, and no run uses up so many turns.
+    let mut turns = u64::MAX;
+    while turns > 0 {
+        turns -= 1;
+        let next = read_next(&mut record);
+        if next.ended {
+            return;
+        }
+        let count = next.count;
+        let length = runner::output(&record[..count], &mut text);
+        if !write_next(&text[..length]) {
+            return;
+        }
+    }
+}
+
+fn read_next(record: &mut [u8]) -> Next
+    ensures { λ r. ⌜ r .count ≤ length (now («record» .entry)) ⌝ }
+{
+    let none = Next {
+        count: 0,
+        ended: true,
+    };
+    let mut head = [0u8; 4];
+    if io::read_full(STDIN_FILENO, &mut head) < 4 {
+        return none;
+    }
+    let count = number(head);
+    if record.len() < count {
+        return none;
+    }
+    if io::read_full(STDIN_FILENO, &mut record[..count]) < count {
+        return none;
+    }
+    Next {
+        count,
+        ended: false,
+    }
+}
+
+fn write_next(text: &[u8]) -> bool {
+    let head = bytes_of(text.len());
+    io::write_all(STDOUT_FILENO, &head) && io::write_all(STDOUT_FILENO, text)
+}
+
+fn number(head: [u8; 4]) -> usize {
+    wide(head[0]) + 256 * (wide(head[1]) + 256 * (wide(head[2]) + 256 * wide(head[3])))
+}
+
+fn wide(byte: u8) -> usize
+    ensures { λ r. ⌜ r < 256 ⌝ }
+{
+    byte as usize
+}
+
+// A length of at most two bytes, in four.
+fn bytes_of(length: usize) -> [u8; 4] {
+    [low_byte(length), low_byte(length / 256), 0, 0]
+}
+
+fn low_byte(n: usize) -> u8 {
+    (n % 256) as u8
+}
