@@ -10,6 +10,7 @@ use Rattle.answers.specs.declared.Number.{Number}
 use Rattle.slots.specs.Sets.{none, all}
 use Rattle.slots.specs.Calls.{Call, takeCall, claimCall, freeCall, setCall, nextFreeCall, getCall, emptyCall, usedCall, capacity}
 use Rattle.slots.specs.View.{answered, changed}
+use Rattle.layout.specs.Sixteen.{summaryOf}
 use Rattle.tree.specs.declared.Tree.{Tree}
 use Rattle.tree.specs.declared.Changed.{Changed}
 use Rattle.tree.specs.Layout.{treeOf, slotOf, ofSlots, treeView}
@@ -23,6 +24,10 @@ NewEmptySays r = r ≡ ofSlots none
 
 abbrev pub NewFullSays : Tree → Type 0
 NewFullSays r = r ≡ ofSlots all
+
+-- the words under the summary that is theirs
+abbrev pub HoldingSays : List ℕ → Tree → Type 0
+HoldingSays words r = r ≡ treeOf words (summaryOf words)
 
 -- the same words under another summary; what every tree lets be read
 abbrev pub WithSummarySays : Tree → ℕ → Tree → Type 0

@@ -1,6 +1,6 @@
 -- The owner's three demands, of the tree map, and that a contract leaves one outcome: each said of every outcome that a contract allows.
 -- Each cites the laws of `slots` and of the view. The hypotheses are that the tree is sound and a value of its type, and no others.
-use mathlib.Core.Path.{_≡_, sym, ap, _∙_}
+use mathlib.Core.Path.{_≡_, refl, sym, ap, _∙_}
 use mathlib.Core.Logic.{_↔_}
 use mathlib.Core.Bool.{Bool, true, false}
 use mathlib.Core.List.{List, [], _∷_, map, Perm}
@@ -12,6 +12,7 @@ use Rattle.answers.specs.Answers.{Reply, at, ok, answerSays, nextFreeSays, trut
 use Rattle.answers.specs.declared.NextFree.{NextFree}
 use Rattle.answers.specs.declared.Number.{Number}
 use Rattle.answers.specs.declared.Truth.{Truth}
+use Rattle.bits.specs.Digits.{number-lt}
 use Rattle.bits.specs.Range.{count}
 use Rattle.slots.specs.Sets.{none, all, painted, AllFree, AllUsed}
 use Rattle.slots.specs.Lowest.{LowestFit, NoStart, lowest}
@@ -22,10 +23,12 @@ use Rattle.slots.specs.Records.{Entry}
 use Rattle.slots.specs.Series as Series
 use Rattle.slots.specs.Series.{Asked, callOf, forward, AllDone, answersOf, mapsOf, lastOf, recordOf, beforeOf}
 use Rattle.slots.specs.View.{answered, changed-says, changed-refused, changed-sound, changed-map, answered-decided, sound-answers, sound-changes}
+use Rattle.layout.specs.Painting.{slotIn}
+use Rattle.layout.specs.Sixteen.{usedWord, summaryOf, sound-by-summary}
 use Rattle.tree.specs.declared.Tree.{Tree}
 use Rattle.tree.specs.declared.Changed.{Changed}
-use Rattle.tree.specs.Layout.{slotOf, ofSlots, Sound, IsTree, treeView}
-use Rattle.tree.specs.Contracts.{Leaves, NewEmptySays, NewFullSays, WithSummarySays, WordsSays, SummarySays, TakeSays, ClaimSays, FreeSays, SetSays, NextFreeSays, GetSays, EmptySays, UsedSays, CapacitySays}
+use Rattle.tree.specs.Layout.{treeOf, parted, slotOf, ofSlots, Sound, IsTree, treeView}
+use Rattle.tree.specs.Contracts.{Leaves, NewEmptySays, NewFullSays, HoldingSays, WithSummarySays, WordsSays, SummarySays, TakeSays, ClaimSays, FreeSays, SetSays, NextFreeSays, GetSays, EmptySays, UsedSays, CapacitySays}
 
 -- ---- sound trees
 
@@ -34,6 +37,14 @@ empty-is-sound r e = rw e (treeView .made-sound none)
 
 pub full-is-sound : (r : Tree) → NewFullSays r → Sound r
 full-is-sound r e = rw e (treeView .made-sound all)
+
+-- a tree made of words is sound, and holds their slots
+pub holding-is-sound : (words : List ℕ) (r : Tree) → HoldingSays words r → Sound r
+unfolding summaryOf
+holding-is-sound words r e = rw e (sound-by-summary (parted (treeOf words (summaryOf words))) (number-lt (usedWord words) 16) .1 refl)
+
+pub holding-holds : (words : List ℕ) (r : Tree) → HoldingSays words r → (i : ℕ) → slotOf r i ≡ slotIn words i
+holding-holds words r e i = ap (λ (t : Tree). slotOf t i) e
 
 -- a sound tree is the tree made of its slots: the same slots are the same words and the same summary
 pub made-of-its-slots : (t : Tree) → Sound t → IsTree t → ofSlots (slotOf t) ≡ t
@@ -201,6 +212,9 @@ new-empty-one-answer r q p o = p ∙ sym o
 
 pub new-full-one-answer : (r q : Tree) → NewFullSays r → NewFullSays q → r ≡ q
 new-full-one-answer r q p o = p ∙ sym o
+
+pub holding-one-answer : (words : List ℕ) (r q : Tree) → HoldingSays words r → HoldingSays words q → r ≡ q
+holding-one-answer words r q p o = p ∙ sym o
 
 pub with-summary-one-answer : (t : Tree) (summary : ℕ) (r q : Tree) → WithSummarySays t summary r → WithSummarySays t summary q → r ≡ q
 with-summary-one-answer t summary r q p o = p ∙ sym o

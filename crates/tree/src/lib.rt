@@ -9,7 +9,7 @@ use answers::Number;
 use answers::Refusal;
 use answers::Truth;
 use layout::sixteen;
-ghost use Rattle.tree.specs.Contracts.{NewEmptySays, NewFullSays, WithSummarySays, WordsSays, SummarySays, TakeSays, ClaimSays, FreeSays, SetSays, NextFreeSays, GetSays, EmptySays, UsedSays, CapacitySays};
+ghost use Rattle.tree.specs.Contracts.{NewEmptySays, NewFullSays, HoldingSays, WithSummarySays, WordsSays, SummarySays, TakeSays, ClaimSays, FreeSays, SetSays, NextFreeSays, GetSays, EmptySays, UsedSays, CapacitySays};
 ghost use Rattle.tree.specs.Inner.{SoundSays, RangeSays, ClaimJudged, FreeJudged, TakeJudged, carriedOut, NextFreeInSays, LowestStartSays};
 ghost use Rattle.slots.specs.Tries.{nextTry};
 ghost use mathlib.Core.Path.{_≡_};
@@ -52,6 +52,17 @@ impl Tree {
         Tree {
             words: [u64::MAX; 16],
             summary: u16::MAX,
+        }
+    }
+
+    // The map that holds the slots of these words, under the summary that is theirs.
+    pub fn holding(words: [u64; 16]) -> Tree
+        ensures { λ r. ⌜ HoldingSays words r ⌝ }
+    {
+        let theirs = sixteen::summary(&words);
+        Tree {
+            words,
+            summary: theirs,
         }
     }
 

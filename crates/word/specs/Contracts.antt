@@ -11,7 +11,7 @@ use Rattle.slots.specs.Calls.{Call, takeCall, claimCall, freeCall, setCall, nex
 use Rattle.slots.specs.View.{answered, changed}
 use Rattle.word.specs.declared.Word.{Word}
 use Rattle.word.specs.declared.Changed.{Changed}
-use Rattle.word.specs.Layout.{slotOf, ofSlots, wordView}
+use Rattle.word.specs.Layout.{wordOf, slotOf, ofSlots, wordView}
 
 -- the answer and the map, as the meaning has them
 abbrev pub Leaves : Word → Call Reply → Changed → Type 0
@@ -22,6 +22,13 @@ NewEmptySays r = r ≡ ofSlots none
 
 abbrev pub NewFullSays : Word → Type 0
 NewFullSays r = r ≡ ofSlots all
+
+-- the map of a word's digits, and the word
+abbrev pub HoldingSays : ℕ → Word → Type 0
+HoldingSays bits r = r ≡ wordOf bits
+
+abbrev pub BitsSays : Word → ℕ → Type 0
+BitsSays w r = r ≡ w .bits
 
 abbrev pub TakeSays : Word → ℕ → ℕ → Changed → Type 0
 TakeSays w n a r = Leaves w (takeCall 6 (slotOf w) n a) r
@@ -55,6 +62,12 @@ CapacitySays r = r ≡ capacity 6
 
 pub new-empty-one-answer : (r q : Word) → NewEmptySays r → NewEmptySays q → r ≡ q
 new-empty-one-answer r q p o = p ∙ sym o
+
+pub holding-one-answer : (bits : ℕ) (r q : Word) → HoldingSays bits r → HoldingSays bits q → r ≡ q
+holding-one-answer bits r q p o = p ∙ sym o
+
+pub bits-one-answer : (w : Word) (r q : ℕ) → BitsSays w r → BitsSays w q → r ≡ q
+bits-one-answer w r q p o = p ∙ sym o
 
 pub new-full-one-answer : (r q : Word) → NewFullSays r → NewFullSays q → r ≡ q
 new-full-one-answer r q p o = p ∙ sym o

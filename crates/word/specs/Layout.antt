@@ -1,6 +1,6 @@
 -- The view of the word map: slot s is bit s of the word. Every word map is sound. Rests on `slots` and on the digits of `bits`.
 use mathlib.Core.Path.{refl}
-use Prim.Native.Nat.{_^_, _<_}
+use Prim.Native.Nat.{ℕ, _^_, _<_}
 use Rattle.bits.specs.Digits.{digit, number}
 use Rattle.slots.specs.Sets.{Slots}
 use Rattle.slots.specs.View.{View}
@@ -10,11 +10,14 @@ use Rattle.word.specs.declared.Word.{Word}
 abbrev pub slotOf : Word → Slots
 slotOf w s = digit (w .bits) s
 
+abbrev pub wordOf : ℕ → Word
+wordOf bits = record { bits = bits }
+
 abbrev pub ofSlots : Slots → Word
-ofSlots S = record { bits = number S 64 }
+ofSlots S = wordOf (number S 64)
 
 abbrev pub IsWord : Word → Type 0
 IsWord w = w .bits < 2 ^ 64
 
 abbrev pub wordView : View
-wordView = carried (digitsView 6) Word (λ w. w .bits) (λ n. record { bits = n }) (λ n. refl) (λ w. refl)
+wordView = carried (digitsView 6) Word (λ w. w .bits) wordOf (λ n. refl) (λ w. refl)

@@ -4,7 +4,7 @@ use answers::Answer;
 use answers::NextFree;
 use answers::Refusal;
 use answers::Truth;
-ghost use Rattle.word.specs.Contracts.{NewEmptySays, NewFullSays, TakeSays, ClaimSays, FreeSays, SetSays, NextFreeSays, GetSays, EmptySays, UsedSays, CapacitySays};
+ghost use Rattle.word.specs.Contracts.{NewEmptySays, NewFullSays, HoldingSays, BitsSays, TakeSays, ClaimSays, FreeSays, SetSays, NextFreeSays, GetSays, EmptySays, UsedSays, CapacitySays};
 ghost use Rattle.word.specs.Inner.{RangeSays, ClaimJudged, FreeJudged, TakeJudged, carriedOut, NextFreeInSays, LowestStartSays};
 ghost use Rattle.slots.specs.Tries.{nextTry};
 ghost use Rattle.one_word.specs.OneWord.{runMask};
@@ -37,6 +37,20 @@ impl Word {
         ensures { λ r. ⌜ NewFullSays r ⌝ }
     {
         Word { bits: u64::MAX }
+    }
+
+    // The map that holds the slots of this word, bit by bit.
+    pub fn holding(bits: u64) -> Word
+        ensures { λ r. ⌜ HoldingSays bits r ⌝ }
+    {
+        Word { bits }
+    }
+
+    // The slots as one word.
+    pub fn bits(self) -> u64
+        ensures { λ r. ⌜ BitsSays self r ⌝ }
+    {
+        self.bits
     }
 
     // Takes n slots at the lowest free start that is a multiple of 2^a.

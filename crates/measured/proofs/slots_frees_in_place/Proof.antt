@@ -1,0 +1,68 @@
+-- `measured::slots_frees_in_place` meets its contract: what is left of the frees ends where all of them do. Assumes nothing.
+use Prim.Native.Nat.{_-_}
+use lib.ListN.{length, drop}
+use borrow.Author.Needs.{needs}
+use Rattle.measured.specs.Series.{freesOf}
+use Rattle.measured.proofs.Turns.{Ends, begins, free-turn, none-to-free, finished}
+use Rattle.measured.proofs.slots_frees_in_place.Statement.{statement}
+use Rattle.measured.proofs.slots_frees_in_place.Tie as tie
+
+abbrev Inv-loop : tie.InvT-loop
+Inv-loop words starts n map₀ i₀ map i = Ends words (freesOf starts n) map (freesOf (drop i starts) n)
+
+abbrev μ-loop : tie.MeasureT-loop
+μ-loop words starts n map₀ i₀ map i = length starts - i
+
+holding-requires : tie.Need-holding-requires Inv-loop μ-loop
+holding-requires c κs = search needs
+
+loop-holds : tie.Need-loop-holds Inv-loop μ-loop
+loop-holds c = begins _ (c .holding .ensures)
+
+mul-free-lent : tie.Need-mul-free-lent Inv-loop μ-loop
+mul-free-lent c = search needs
+
+shared-slice-read-free-lent : tie.Need-shared-slice-read-free-lent Inv-loop μ-loop
+shared-slice-read-free-lent c = search needs
+
+free-lent-requires : tie.Need-free-lent-requires Inv-loop μ-loop
+free-lent-requires c κs = search needs
+
+add-i : tie.Need-add-i Inv-loop μ-loop
+add-i c = search needs
+
+loop-less : tie.Need-loop-less Inv-loop μ-loop
+loop-less c = search needs
+
+loop-again : tie.Need-loop-again Inv-loop μ-loop
+loop-again c = free-turn _ _ _ (c .before .free-lent .result) (c .before .before .before .loop-test .taken) (c .before .before .before .before .loop .inv) (c .before .free-lent .ensures)
+
+words-requires : tie.Need-words-requires Inv-loop μ-loop
+words-requires c κs = search needs
+
+count-requires : tie.Need-count-requires Inv-loop μ-loop
+count-requires c κs = search needs
+
+returns : tie.Need-returns Inv-loop μ-loop
+returns c =
+    let out-of-loop = c .before .before .before in
+    let at-head = out-of-loop .before .loop in
+    finished _ _ (none-to-free _ _ (at-head .i) (out-of-loop .loop-test .left) (at-head .inv)) (c .before .before .words .ensures) (c .count .ensures)
+
+pub slots-frees-in-place-spec : {M : Type 1} → statement M
+slots-frees-in-place-spec =
+    tie.close
+    (tie.spec
+    Inv-loop
+    μ-loop
+    holding-requires
+    loop-holds
+    mul-free-lent
+    shared-slice-read-free-lent
+    free-lent-requires
+    add-i
+    loop-less
+    loop-again
+    words-requires
+    count-requires
+    returns)

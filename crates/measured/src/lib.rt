@@ -1,0 +1,70 @@
+// What the measurement calls from outside: takes and frees one after the other on a tree that is
+// lent as its sixteen words, by value and in place. Thin: a loop over the calls of `tree` and of
+// `in_place`.
+use layout::sixteen;
+use tree::Tree;
+ghost use Rattle.measured.specs.Series.{TakesSays, FreesSays};
+
+// So many takes of n slots at a multiple of 2^a. Answers how many slots are used then.
+#[no_mangle]
+pub extern "C" fn slots_takes(words: &mut [u64; 16], n: usize, a: usize, times: usize) -> usize
+    ensures { λ r. ⌜ TakesSays (now (words .entry)) n a times r (now (words .exit)) ⌝ }
+{
+    let mut map = Tree::holding(*words);
+    let mut left = times;
+    while left > 0 {
+        map = map.take(n, a).map;
+        left -= 1;
+    }
+    *words = map.words();
+    sixteen::count(words)
+}
+
+// A free of n slots from each of the starts. Answers how many slots are used then.
+#[no_mangle]
+pub extern "C" fn slots_frees(words: &mut [u64; 16], starts: &[u64], n: usize) -> usize
+    ensures { λ r. ⌜ FreesSays (now (words .entry)) (now (starts .entry)) n r (now (words .exit)) ⌝ }
+{
+    let mut map = Tree::holding(*words);
+    let mut i = 0;
+    while i < starts.len() {
+        map = map.free(starts[i] as usize, n).map;
+        i += 1;
+    }
+    *words = map.words();
+    sixteen::count(words)
+}
+
+// The same, by the in-place forms.
+#[no_mangle]
+pub extern "C" fn slots_takes_in_place(
+    words: &mut [u64; 16],
+    n: usize,
+    a: usize,
+    times: usize,
+) -> usize
+    ensures { λ r. ⌜ TakesSays (now (words .entry)) n a times r (now (words .exit)) ⌝ }
+{
+    let mut map = Tree::holding(*words);
+    let mut left = times;
+    while left > 0 {
+        map = in_place::take_lent(map, n, a).map;
+        left -= 1;
+    }
+    *words = map.words();
+    sixteen::count(words)
+}
+
+#[no_mangle]
+pub extern "C" fn slots_frees_in_place(words: &mut [u64; 16], starts: &[u64], n: usize) -> usize
+    ensures { λ r. ⌜ FreesSays (now (words .entry)) (now (starts .entry)) n r (now (words .exit)) ⌝ }
+{
+    let mut map = Tree::holding(*words);
+    let mut i = 0;
+    while i < starts.len() {
+        map = in_place::free_lent(map, starts[i] as usize, n).map;
+        i += 1;
+    }
+    *words = map.words();
+    sixteen::count(words)
+}

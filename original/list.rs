@@ -1,0 +1,177 @@
+//! The stored list: calls with the original's answers, as text, for a replay without the original.
+
+use crate::calls::{Act, Layout, Op, Outcome, Request, Way};
+use crate::cases::{self, Make, TOP};
+use crate::dice::Dice;
+use crate::map::Map;
+use crate::{helpers, random, rules, show, source};
+use std::fmt::Write;
+
+const HEAD: &str = "\
+# Calls of the slot map with the original's answers, made by running it built with overflow checks:
+#
+#     tests/compare-original --seed SEED --list > tests/original.list
+#
+# tests/replay-original makes the same calls and compares. Numbers are decimal, words and summaries hex.
+#
+# `map` says the map of the calls below it: the words that are not 0, place:word, equal words in a row as
+# first-last:word, `-` for none; after them /summary where the summary does not fit the words. A word call is
+# made on word 0.
+#
+# CALL = ANSWER; CHANGE is a call on that map. The numbers of a call: take N EXPONENT; claim, free START N;
+# set START N on|off; next_free START; get SLOT; align_.., is_aligned_.. VALUE ALIGNMENT; overlap FIRST LAST
+# FIRST LAST, on an empty map of its own; mask START END; the others have one or none. The answer is done, a
+# number, yes or no, `not found` for the original's None, or `none: REASON` where it has no answer. The
+# change, of a call that may change its map, is `same`, or the words that are others than before and
+# /summary where it is another. `then` before a call: its map, and that of the calls below it, is what the
+# line above left.
+";
+
+/// The list made with this seed.
+pub fn made(seed: u64) -> String {
+    let mut list = List { text: HEAD.replace("SEED", &seed.to_string()), map: None, left: None };
+    calls(seed, &mut |request| Some(list.line(&alone(request))));
+    list.text
+}
+
+/// The list so far, the map of the calls below, and the map that the last line left.
+struct List {
+    text: String,
+    map: Option<Map>,
+    left: Option<Map>,
+}
+
+impl List {
+    /// Adds a call, on its own map or on the one before it; hands back the map to go on with.
+    fn line(&mut self, request: &Request) -> Map {
+        let original = source::carried_out(request);
+        let call = format!("{} = {}", show::call(request), said(request, &original));
+        let _ = match Some(request.map) {
+            map if map == self.map || request.op == Op::Overlap => writeln!(self.text, "{call}"),
+            map if map == self.left => writeln!(self.text, "then {call}"),
+            _ => writeln!(self.text, "map {}\n{call}", show::map(&request.map)),
+        };
+        if request.op != Op::Overlap {
+            self.map = Some(request.map);
+        }
+        self.left = Some(original.map);
+        rules::went_on(request, &original)
+    }
+}
+
+/// An overlap's line tells its four ends, so its map has nothing but the last two.
+fn alone(request: Request) -> Request {
+    let [first, last, ..] = request.map.words;
+    match request.op {
+        Op::Overlap => Request::overlap(request.x, request.y, first, last),
+        _ => request,
+    }
+}
+
+fn said(request: &Request, original: &Outcome) -> String {
+    let answer = show::answer(&original.answer);
+    match request.op {
+        Op::Slots(_, Act::Take | Act::Claim | Act::Free | Act::Set) if !answer.starts_with("none") => {
+            format!("{answer}; {}", show::change(&request.map, &original.map))
+        }
+        _ => answer,
+    }
+}
+
+fn calls(seed: u64, make: Make) -> Option<()> {
+    smallest_departures(make)?;
+    word_calls(make)?;
+    tree_calls(make)?;
+    odd_summaries(make)?;
+    helper_calls(make)?;
+    random_calls(seed, make)
+}
+
+/// For each listed departure the smallest call that shows it.
+fn smallest_departures(make: Make) -> Option<()> {
+    let tree = |act, x, y, map| Request::new(Op::Slots(Layout::Tree, act), x, y, map);
+    let word = |act, x, y, map| Request::new(Op::Slots(Layout::Word, act), x, y, map);
+    let at_odds = Map { summary: 1, ..Map::EMPTY };
+    let calls = [
+        tree(Act::Empty, 0, 0, at_odds),
+        tree(Act::Get, 0, 0, at_odds),
+        tree(Act::Free, 1, 0, Map::FULL),
+        word(Act::Free, 0, 0, Map::FULL),
+        tree(Act::Take, 0, 10, Map::EMPTY),
+        word(Act::Take, 0, 6, Map::EMPTY),
+        Request::set(Layout::Tree, 1023, 2, true, Map::EMPTY),
+        Request::set(Layout::Tree, 1024, 1, true, Map::EMPTY),
+        tree(Act::NextFree, 1024, 0, Map::EMPTY),
+        Request::new(Op::Mask, 2, 64, Map::EMPTY),
+        tree(Act::Free, 0, 2, Map::of_word(1)),
+        word(Act::Free, 0, 2, Map::of_word(1)),
+        Request::new(Op::Round(Way::Up, 64), 1, 3, Map::EMPTY),
+        Request::overlap(1, 0, 0, 1),
+        Request::overlap(5, 3, 0, 10),
+    ];
+    for call in calls {
+        make(call)?;
+    }
+    Some(())
+}
+
+fn word_calls(make: Make) -> Option<()> {
+    let maps = [0, TOP, 1, 1 << 63, 0xffff_ffff, 0x00f0_0ff0_03c1_8001].map(Map::of_word);
+    let entries = [0, 1, 2, 31, 32, 33, 63, 64, 65];
+    let far = [1 << 32, TOP - 63, TOP];
+    cases::ranges(make, Layout::Word, &maps, &[0, 1, 31, 32, 62, 63, 64], &entries)?;
+    cases::ranges(make, Layout::Word, &maps[1..3], &[0, 63, 64, 1 << 32, TOP], &far)?;
+    cases::takes(make, Layout::Word, &maps, &entries, &[0, 1, 4, 5, 6])?;
+    cases::takes(make, Layout::Word, &maps[..2], &far, &[0, 5, 6, 63, 64, 255, TOP])?;
+    cases::questions(make, Layout::Word, &maps, &[0, 1, 8, 31, 32, 62, 63, 64, 65, TOP])
+}
+
+fn tree_calls(make: Make) -> Option<()> {
+    let maps = cases::tree_maps();
+    let starts = [0, 1, 63, 64, 65, 512, 960, 1022, 1023, 1024, 1025];
+    let entries = [0, 1, 2, 63, 64, 65, 1023, 1024, 1025];
+    let far = [1 << 32, 1 << 63, TOP - 1, TOP];
+    cases::ranges(make, Layout::Tree, &maps[..3], &starts, &entries)?;
+    cases::ranges(make, Layout::Tree, &maps[1..3], &[0, 1023, 1024, 1 << 32, TOP], &far)?;
+    cases::takes(make, Layout::Tree, &maps, &entries, &[0, 1, 6, 9, 10])?;
+    cases::takes(make, Layout::Tree, &maps[..2], &far, &[0, 9, 10, 11, 63, 64, 255, TOP])?;
+    cases::questions(make, Layout::Tree, &maps, &starts)?;
+    cases::questions(make, Layout::Tree, &maps[..1], &far)?;
+    cases::in_place(make, &maps[..3], &starts, &entries, &[0, 5, 9, 10])
+}
+
+fn odd_summaries(make: Make) -> Option<()> {
+    let turned = |map: Map, bits: u16| Map { summary: map.summary ^ bits, ..map };
+    let maps = [turned(Map::EMPTY, 1), turned(Map::FULL, 1 << 15), turned(cases::tree_maps()[2], 0x0006)];
+    let entries = [0, 1, 64, 1024, 1025];
+    cases::ranges(make, Layout::Tree, &maps, &[0, 1, 64, 1023, 1024], &entries)?;
+    cases::takes(make, Layout::Tree, &maps, &entries, &[0, 9, 10])?;
+    cases::questions(make, Layout::Tree, &maps, &[0, 63, 64, 1023, 1024])?;
+    cases::questions(make, Layout::Word, &maps, &[0, 63, 64])?;
+    cases::in_place(make, &maps, &[0, 1, 1023, 1024], &entries, &[0, 9, 10])
+}
+
+fn helper_calls(make: Make) -> Option<()> {
+    let values = [0, 1, 4095, 4096, 4097, (1 << 32) - 4096, (1 << 32) - 1, 1 << 63, TOP - 4095, TOP];
+    let alignments = [0, 1, 2, 3, 64, 65, 4096, 1 << 31, (1 << 32) - 1, 1 << 63, TOP];
+    for width in [64, 32] {
+        cases::roundings(make, width, &values, &alignments)?;
+    }
+    cases::pages(make, &cases::wide_numbers())?;
+    cases::masks(make, &[0, 1, 2, 31, 32, 62, 63, 64, 65, 127, TOP])?;
+    cases::overlaps(make, &[0, 1, 2, 5])
+}
+
+/// Random series, and a few of the other random calls.
+fn random_calls(seed: u64, make: Make) -> Option<()> {
+    let mut dice = Dice::new(seed);
+    for _ in 0..50 {
+        random::series(&mut dice, make)?;
+    }
+    for _ in 0..4 {
+        random::boundaries(&mut dice, make)?;
+        random::odd_summaries(&mut dice, make)?;
+        helpers::some(&mut dice, make)?;
+    }
+    Some(())
+}

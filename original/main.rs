@@ -1,0 +1,187 @@
+//! Compares the slot map with the original, call by call.
+//!
+//!     compare [--calls N] [--seed S] -- COMMAND [ARGUMENT..]     COMMAND runs the program `calls`
+//!     compare [--seed S] --list                                  prints the stored list
+//!
+//! tests/compare-original builds it and runs it. The status is 1 where a difference is found, 2 where the
+//! comparison cannot be made.
+
+mod calls;
+mod cases;
+mod departures;
+mod dice;
+mod helpers;
+mod list;
+mod map;
+mod program;
+mod random;
+mod rules;
+mod show;
+mod shrink;
+mod source;
+mod stubs;
+mod tally;
+
+use calls::{Outcome, Request};
+use program::Program;
+use rules::Verdict;
+use shrink::Difference;
+use std::io::{IsTerminal, Write};
+use std::process::{exit, ChildStdin};
+use std::sync::mpsc::{self, Receiver, Sender};
+use std::thread;
+use std::time::Instant;
+use tally::Tally;
+
+// The names by which the original's files ask for what is not at hand.
+use stubs::{address, types};
+
+/// So many calls are made, written and judged at a time.
+const BLOCK: usize = 1024;
+
+struct Options {
+    calls: u64,
+    seed: u64,
+    list: bool,
+    command: Vec<String>,
+}
+
+/// A call and what the original made of it.
+type Made = (Request, Outcome);
+
+fn main() {
+    source::keep_panics_silent();
+    let options = options().unwrap_or_else(|words| fail(&words));
+    if !source::starts_alike() {
+        fail("the original's empty and full maps or its capacities are not the paper's");
+    }
+    if options.list {
+        let list = list::made(options.seed);
+        std::io::stdout().write_all(list.as_bytes()).unwrap_or_else(|error| fail(&error.to_string()));
+        return;
+    }
+    let began = Instant::now();
+    let tally = compared(&options).unwrap_or_else(|words| fail(&words));
+    println!("{} calls of seed {} in {} s", tally.calls, options.seed, began.elapsed().as_secs());
+    println!("{tally}0 unlisted differences");
+}
+
+fn fail(words: &str) -> ! {
+    eprintln!("tests/compare-original: {words}");
+    exit(2)
+}
+
+fn options() -> Result<Options, String> {
+    let mut options = Options { calls: 10_000_000, seed: 1, list: false, command: Vec::new() };
+    let mut given = std::env::args().skip(1);
+    while let Some(word) = given.next() {
+        let mut number = || given.next().and_then(|n| n.parse().ok()).ok_or(format!("{word} needs a number"));
+        match word.as_str() {
+            "--calls" => options.calls = number()?,
+            "--seed" => options.seed = number()?,
+            "--list" => options.list = true,
+            "--" => options.command = given.by_ref().collect(),
+            _ => return Err(format!("{word} is no option; there are --calls N, --seed S and --list")),
+        }
+    }
+    if !options.list && options.command.is_empty() {
+        return Err("the command that runs `calls` is missing: -- COMMAND".into());
+    }
+    Ok(options)
+}
+
+/// Makes the calls in one thread, which also writes them to the program; reads and judges its answers in this.
+fn compared(options: &Options) -> Result<Tally, String> {
+    let (mut program, input) = Program::start(&options.command)?;
+    let (sender, receiver) = mpsc::channel();
+    let (count, seed) = (options.calls, options.seed);
+    let maker = thread::spawn(move || make_calls(count, seed, sender, input));
+    let mut tally = Tally::default();
+    if let Some(difference) = first_difference(&mut program, receiver, &mut tally)? {
+        program.stop();
+        explain(options, tally.calls, difference);
+        exit(1);
+    }
+    maker.join().map_err(|_| "the thread that makes the calls failed")?;
+    program.end()?;
+    Ok(tally)
+}
+
+/// Makes so many calls, in blocks; a block goes to the judge first, so that its answers are read while it is
+/// being written. It ends early where the program does.
+fn make_calls(count: u64, seed: u64, judge: Sender<Vec<Made>>, mut input: ChildStdin) {
+    let mut made = 0;
+    let mut block: Vec<Made> = Vec::with_capacity(BLOCK);
+    let mut hand_over = |block: &mut Vec<Made>| {
+        let bytes = program::bytes_of(block.iter().map(|(request, _)| request));
+        judge.send(std::mem::replace(block, Vec::with_capacity(BLOCK))).ok()?;
+        input.write_all(&bytes).ok()
+    };
+    let mut make = |request: Request| {
+        if made == count {
+            return None;
+        }
+        made += 1;
+        let original = source::carried_out(&request);
+        block.push((request, original));
+        if block.len() == BLOCK {
+            hand_over(&mut block)?;
+        }
+        Some(rules::went_on(&request, &original))
+    };
+    let _ = cases::all(&mut make).and_then(|()| random::all(seed, &mut make));
+    let _ = hand_over(&mut block);
+}
+
+fn first_difference(
+    program: &mut Program,
+    blocks: Receiver<Vec<Made>>,
+    tally: &mut Tally,
+) -> Result<Option<Difference>, String> {
+    for block in blocks {
+        let answers = program.answers(block.len())?;
+        for ((request, original), ours) in block.iter().zip(&answers) {
+            let verdict = rules::judged(request, original, ours);
+            tally.note(request, verdict);
+            if verdict == Verdict::Unlisted {
+                return Ok(Some(Difference { request: *request, original: *original, ours: *ours }));
+            }
+        }
+        if let Some((request, _)) = block.get(answers.len()) {
+            let place = tally.calls + 1;
+            return Err(format!(
+                "the program ends before its answer to call {place}: {}",
+                show::call(request)
+            ));
+        }
+        progress(tally.calls);
+    }
+    Ok(None)
+}
+
+fn progress(calls: u64) {
+    if calls % (BLOCK as u64 * 256) == 0 && std::io::stderr().is_terminal() {
+        eprintln!("  {calls} calls");
+    }
+}
+
+/// Shows a difference at its smallest, and how to see it again.
+fn explain(options: &Options, place: u64, found: Difference) {
+    println!(
+        "call {place} of seed {} differs, and it is no listed departure: {}",
+        options.seed,
+        show::call(&found.request)
+    );
+    let Difference { request, original, ours } = shrink::smallest(&options.command, found);
+    println!("the smallest such call that was found:");
+    println!("  call      {}", show::call(&request));
+    println!("  map       {}", show::map_and_slots(&request.map));
+    println!("  original  {}", show::outcome(&request.map, &original));
+    println!("  ours      {}", show::outcome(&request.map, &ours));
+    match rules::due(&request, &original) {
+        Some(due) if due == ours => println!("  expected  ours; but no departure says this of the original"),
+        Some(due) => println!("  expected  {}", show::outcome(&request.map, &due)),
+        None => println!("  expected  a refusal; but the paper has none for this call"),
+    }
+    println!("again: tests/compare-original --seed {} --calls {place}", options.seed);
+}
