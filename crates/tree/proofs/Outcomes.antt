@@ -29,7 +29,7 @@ use Rattle.slots.specs.View.{answered, found-sound, says-refused, says-accepted
 use Rattle.tree.specs.declared.Tree.{Tree}
 use Rattle.tree.specs.declared.Changed.{Changed}
 use Rattle.tree.specs.Layout.{treeOf, treeView, slotOf, ofSlots, Sound, IsTree, parted, slots-seen}
-use Rattle.tree.specs.Inner.{paintedTree, leftBy, carriedOut}
+use Rattle.tree.specs.Inner.{paintedTree, leftBy}
 use Rattle.tree.specs.Contracts.{Leaves}
 
 -- ---- the summary tells whether a tree is sound
@@ -101,11 +101,9 @@ left-accepted Done kept words summary s n v = refl
 left-accepted (Refused why) kept words summary s n v = absurd (value≢refused _ _ (sym (not-refused (Refused why) kept .1)))
 
 pub carried : (judge : Answer) → OneOf (0 ∷ 1 ∷ []) (tagOf the-type judge) → (words : List ℕ) (summary s n : ℕ) (v : Bool) (left : List ℕ) (updated : ℕ)
-    → left ≡ paintedWords words s n v → updated ≡ touchedSummary left summary s n
-    → _≡_ {A = Changed} (record { answer = judge; map = treeOf left updated }) (carriedOut words summary judge s n v)
+    → left ≡ paintedWords words s n v → updated ≡ touchedSummary left summary s n → treeOf left updated ≡ leftBy words summary judge s n v
 carried judge kept words summary s n v left updated e f =
-    ap (λ (map : Tree). record { answer = judge; map = map })
-    (ap₂ treeOf e (f ∙ ap (λ (ws : List ℕ). touchedSummary ws summary s n) e) ∙ sym (left-accepted judge kept words summary s n v))
+    ap₂ treeOf e (f ∙ ap (λ (ws : List ℕ). touchedSummary ws summary s n) e) ∙ sym (left-accepted judge kept words summary s n v)
 
 -- where something is said that is no refusal, the tree is sound
 accepted-sound : (t : Tree) (call : Call Reply) (reply : Reply) → answered treeView t call ≡ value reply → treeView .isSound t ≡ true
@@ -118,6 +116,10 @@ pub take-paints : (t : Tree) (n a start : ℕ) → value (at start) ≡ answered
 take-paints t n a start told =
     let call = takeCall 10 (slotOf t) n a in
     take-after 10 (slotOf t) n a start (sym (found-sound treeView t call (accepted-sound t call (at start) (sym told))) ∙ sym told)
+
+-- an answer, with the map that was left
+pub with-map : (judge : Answer) (left map : Tree) → left ≡ map → _≡_ {A = Changed} (record { answer = judge; map = left }) (record { answer = judge; map = map })
+with-map judge left map e = ap (λ (t : Tree). record { answer = judge; map = t }) e
 
 module _ (t : Tree) (call : Call Reply) (r : Changed) where
   pub refusing : (why : Refusal) → r ≡ record { answer = Refused why; map = t } → answered treeView t call ≡ refused (numberOf why) → Leaves t call r
@@ -132,7 +134,8 @@ module _ (t : Tree) (call : Call Reply) (r : Changed) where
         ∙ ap (λ S. (value reply, ofSlots S)) (sym after)
         ∙ sym (says-accepted treeView t call reply (sym told))
 
-    pub carries : (judge : Answer) → answerSays judge ≡ answered treeView t call → r ≡ carriedOut (t .words) (t .summary) judge s n v → Leaves t call r
+    pub carries : (judge : Answer) → answerSays judge ≡ answered treeView t call
+        → r ≡ record { answer = judge; map = leftBy (t .words) (t .summary) judge s n v } → Leaves t call r
     carries (At o) told e = accepting (At o) (at o) told refl e
     carries Done told e = accepting Done ok told refl e
     carries (Refused why) told e = refusing why e (sym told)

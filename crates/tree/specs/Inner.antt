@@ -15,7 +15,6 @@ use Rattle.slots.specs.View.{answered}
 use Rattle.layout.specs.Painting.{slotIn, paintedWords}
 use Rattle.layout.specs.Sixteen.{touchedSummary}
 use Rattle.tree.specs.declared.Tree.{Tree}
-use Rattle.tree.specs.declared.Changed.{Changed}
 use Rattle.tree.specs.Layout.{treeOf, treeView}
 
 abbrev pub SoundSays : List ℕ → ℕ → Bool → Type 0
@@ -47,9 +46,6 @@ abbrev pub leftBy : List ℕ → ℕ → Answer → ℕ → ℕ → Bool → Tre
 leftBy words summary (At o) start n used = paintedTree words summary start n used
 leftBy words summary Done start n used = paintedTree words summary start n used
 leftBy words summary (Refused why) start n used = treeOf words summary
-
-abbrev pub carriedOut : List ℕ → ℕ → Answer → ℕ → ℕ → Bool → Changed
-carriedOut words summary judged start n used = record { answer = judged; map = leftBy words summary judged start n used }
 
 abbrev pub NextFreeInSays : List ℕ → ℕ → NextFree → Type 0
 NextFreeInSays words start r = nextFreeSays r ≡ slotOrNone 10 (freeFrom 10 (slotIn words) start)

@@ -10,7 +10,8 @@ use answers::Refusal;
 use answers::Truth;
 use layout::sixteen;
 ghost use Rattle.tree.specs.Contracts.{NewEmptySays, NewFullSays, HoldingSays, WithSummarySays, WordsSays, SummarySays, TakeSays, ClaimSays, FreeSays, SetSays, NextFreeSays, GetSays, EmptySays, UsedSays, CapacitySays};
-ghost use Rattle.tree.specs.Inner.{SoundSays, RangeSays, ClaimJudged, FreeJudged, TakeJudged, carriedOut, NextFreeInSays, LowestStartSays};
+ghost use Rattle.tree.specs.Inner.{SoundSays, RangeSays, ClaimJudged, FreeJudged, TakeJudged, leftBy, NextFreeInSays, LowestStartSays};
+ghost use Rattle.tree.specs.Layout.{treeOf};
 ghost use Rattle.slots.specs.Tries.{nextTry};
 ghost use mathlib.Core.Path.{_≡_};
 ghost use Prim.Native.Nat.{_≤_, _<_};
@@ -92,15 +93,21 @@ impl Tree {
     pub fn take(self, n: usize, a: usize) -> Changed
         ensures { λ r. ⌜ TakeSays self n a r ⌝ }
     {
-        let found = judged_take(&self.words, self.summary, n, a);
+        let mut words = self.words;
+        let mut summary = self.summary;
+        let found = judged_take(&words, summary, n, a);
         match found {
             NextFree::Refused(why) => Changed {
                 answer: Answer::Refused(why),
-                map: self,
+                map: Tree { words, summary },
             },
             NextFree::At(start) => {
-                let granted = Answer::At(start);
-                carried_out(&self.words, self.summary, granted, start, n, true, SHIFTS)
+                let given = Answer::At(start);
+                summary = carried_out(&mut words, summary, given, start, n, true, SHIFTS);
+                Changed {
+                    answer: given,
+                    map: Tree { words, summary },
+                }
             }
         }
     }
@@ -109,24 +116,39 @@ impl Tree {
     pub fn claim(self, start: usize, n: usize) -> Changed
         ensures { λ r. ⌜ ClaimSays self start n r ⌝ }
     {
-        let judged = judged_claim(&self.words, self.summary, start, n);
-        carried_out(&self.words, self.summary, judged, start, n, true, TABLE)
+        let mut words = self.words;
+        let judged = judged_claim(&words, self.summary, start, n);
+        let summary = carried_out(&mut words, self.summary, judged, start, n, true, TABLE);
+        Changed {
+            answer: judged,
+            map: Tree { words, summary },
+        }
     }
 
     // Frees the n slots from `start` on, each of which must be used.
     pub fn free(self, start: usize, n: usize) -> Changed
         ensures { λ r. ⌜ FreeSays self start n r ⌝ }
     {
-        let judged = judged_free(&self.words, self.summary, start, n);
-        carried_out(&self.words, self.summary, judged, start, n, false, SHIFTS)
+        let mut words = self.words;
+        let judged = judged_free(&words, self.summary, start, n);
+        let summary = carried_out(&mut words, self.summary, judged, start, n, false, SHIFTS);
+        Changed {
+            answer: judged,
+            map: Tree { words, summary },
+        }
     }
 
     // Gives the n slots from `start` on the value `used`, whatever they held.
     pub fn set(self, start: usize, n: usize, used: bool) -> Changed
         ensures { λ r. ⌜ SetSays self start n used r ⌝ }
     {
-        let judged = judged_range(&self.words, self.summary, start, n);
-        carried_out(&self.words, self.summary, judged, start, n, used, TABLE)
+        let mut words = self.words;
+        let judged = judged_range(&words, self.summary, start, n);
+        let summary = carried_out(&mut words, self.summary, judged, start, n, used, TABLE);
+        Changed {
+            answer: judged,
+            map: Tree { words, summary },
+        }
     }
 
     // The least free slot from `start` on.
@@ -257,38 +279,24 @@ fn judged_take(words: &[u64; 16], summary: u16, n: usize, a: usize) -> NextFree
     lowest_start(words, n, a)
 }
 
-// What a judged call comes to: on a refusal the very map, and else the map in which the n slots from
-// `start` on have the value `used`, with the summary brought up to date for every word they reach.
+// Carries a judged call out in the words: on a refusal nothing, and else the n slots from `start` on
+// get the value `used`. Answers the summary, brought up to date for every word that they reach.
 fn carried_out(
-    words: &[u64; 16],
+    words: &mut [u64; 16],
     summary: u16,
     judged: Answer,
     start: usize,
     n: usize,
     used: bool,
     table: bool,
-) -> Changed
-    ensures { λ r. ⌜ r ≡ carriedOut (now (words .entry)) summary judged start n used ⌝ }
+) -> u16
+    ensures { λ r. ⌜ treeOf (now (words .exit)) r ≡ leftBy (now (words .entry)) summary judged start n used ⌝ }
 {
-    let mut left = *words;
-    if let Answer::Refused(why) = judged {
-        return Changed {
-            answer: Answer::Refused(why),
-            map: Tree {
-                words: left,
-                summary,
-            },
-        };
+    if let Answer::Refused(_) = judged {
+        return summary;
     }
-    sixteen::paint(&mut left, start, n, used, table);
-    let updated = sixteen::touched(&left, summary, start, n);
-    Changed {
-        answer: judged,
-        map: Tree {
-            words: left,
-            summary: updated,
-        },
-    }
+    sixteen::paint(words, start, n, used, table);
+    sixteen::touched(words, summary, start, n)
 }
 
 // The least free slot from `start` on, or that there is no room: what take and the public query share.

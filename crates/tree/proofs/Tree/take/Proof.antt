@@ -8,7 +8,7 @@ use Rattle.slots.specs.Calls.{takeCall}
 use Rattle.slots.specs.View.{answered}
 use Rattle.tree.specs.Layout.{treeView, slotOf}
 use Rattle.tree.proofs.Values.{is-tree}
-use Rattle.tree.proofs.Outcomes.{refusing, carries, take-paints}
+use Rattle.tree.proofs.Outcomes.{refusing, carries, with-map, take-paints}
 use Rattle.tree.proofs.Tree.take.Statement.{statement}
 use Rattle.tree.proofs.Tree.take.Tie as tie
 
@@ -29,20 +29,20 @@ returns c =
     let known = c .before in
     let judging = known .before .before in
     let asked = judging .before .before .before .args in
-    let t = asked .t1 in
+    let t = asked .self in
     let why = known .found .given .0 .0 in
     refusing t _ _ why refl (told-refused (judging .judged-take .result) (answered treeView t (takeCall 10 (slotOf t) (asked .n) (asked .a))) (judging .judged-take .ensures) why (known .found .given .1))
 
 returns-2 : tie.Need-returns-2
 returns-2 c =
-    let known = c .before .before .before .before in
+    let known = c .before .before .before in
     let judging = known .before .before in
     let entry = judging .before .before .before in
     let asked = entry .args in
-    let t = asked .t1 in
+    let t = asked .self in
     let start = known .found2 .given .0 .0 in
     let told = told-at (judging .judged-take .result) (answered treeView t (takeCall 10 (slotOf t) (asked .n) (asked .a))) (judging .judged-take .ensures) start (known .found2 .given .1) in
-    carries t _ _ (is-tree t (entry .good .0)) start (asked .n) true (take-paints t (asked .n) (asked .a) start told) (At start) told (c .carried-out .ensures)
+    carries t _ _ (is-tree t (entry .good .0)) start (asked .n) true (take-paints t (asked .n) (asked .a) start told) (At start) told (with-map _ _ _ (c .carried-out .ensures))
 
 pub take-spec : {M : Type 1} → statement M
 take-spec =
