@@ -1,5 +1,6 @@
 // The edges of each public function: the last argument that is accepted, the first that is not, and
 // those where a wrap or a shift by 64 would show.
+use crate::names;
 use crate::show;
 use crate::trees;
 use crate::words;
@@ -74,74 +75,87 @@ fn used_from(start: usize, n: usize) -> Word {
 
 pub fn word_takes() {
     let empty = Word::new_empty();
-    words::take(b"empty word", empty, 64, 5);
-    words::take(b"empty word", empty, 0, 6);
-    words::take(b"empty word", empty, 65, 6);
-    words::take(b"empty word", empty, 65, 5);
-    words::take(b"empty word", empty, 18446744073709551615, 0);
-    words::take(b"empty word", empty, 1, 18446744073709551615);
-    words::take(b"full word", Word::new_full(), 1, 0);
-    let first = used_from(0, 1);
-    words::take(b"word with slot 0", first, 63, 0);
-    words::take(b"word with slot 0", first, 64, 0);
-    words::take(b"word with slot 0", first, 1, 5);
-    words::take(b"word with slot 0", first, 32, 5);
-    words::take(b"word with slot 0", first, 33, 5);
-    let third = used_from(2, 1);
-    words::take(b"word with slot 2", third, 2, 0);
-    words::take(b"word with slot 2", third, 3, 0);
-    words::take(b"word with slot 2", third, 4, 1);
-    words::take(b"word with slot 2", third, 4, 3);
-    words::take(b"word with slots 0 to 62", used_from(0, 63), 1, 0);
-    words::take(b"word with slots 0 to 62", used_from(0, 63), 1, 1);
+    words::take(names::EMPTY_WORD, empty, 64, 5);
+    words::take(names::EMPTY_WORD, empty, 0, 6);
+    words::take(names::EMPTY_WORD, empty, 65, 6);
+    words::take(names::EMPTY_WORD, empty, 65, 5);
+    words::take(names::EMPTY_WORD, empty, 18446744073709551615, 0);
+    words::take(names::EMPTY_WORD, empty, 1, 18446744073709551615);
+    words::take(names::FULL_WORD, Word::new_full(), 1, 0);
 }
 
-pub fn word_changes() {
+pub fn word_takes_around() {
+    let first = used_from(0, 1);
+    words::take(names::WORD_WITH_SLOT_0, first, 63, 0);
+    words::take(names::WORD_WITH_SLOT_0, first, 64, 0);
+    words::take(names::WORD_WITH_SLOT_0, first, 1, 5);
+    words::take(names::WORD_WITH_SLOT_0, first, 32, 5);
+    words::take(names::WORD_WITH_SLOT_0, first, 33, 5);
+    let third = used_from(2, 1);
+    words::take(names::WORD_WITH_SLOT_2, third, 2, 0);
+    words::take(names::WORD_WITH_SLOT_2, third, 3, 0);
+    words::take(names::WORD_WITH_SLOT_2, third, 4, 1);
+    words::take(names::WORD_WITH_SLOT_2, third, 4, 3);
+    words::take(names::WORD_WITH_SLOTS_0_TO_62, used_from(0, 63), 1, 0);
+    words::take(names::WORD_WITH_SLOTS_0_TO_62, used_from(0, 63), 1, 1);
+}
+
+pub fn word_claims() {
+    let empty = Word::new_empty();
+    let tenth = used_from(10, 1);
+    words::claim(names::EMPTY_WORD, empty, 0, 64);
+    words::claim(names::EMPTY_WORD, empty, 63, 1);
+    words::claim(names::EMPTY_WORD, empty, 63, 2);
+    words::claim(names::EMPTY_WORD, empty, 64, 0);
+    words::claim(names::EMPTY_WORD, empty, 64, 1);
+    words::claim(names::EMPTY_WORD, empty, 18446744073709551615, 2);
+    words::claim(names::WORD_WITH_SLOT_10, tenth, 8, 2);
+    words::claim(names::WORD_WITH_SLOT_10, tenth, 8, 3);
+}
+
+pub fn word_frees() {
     let empty = Word::new_empty();
     let full = Word::new_full();
     let tenth = used_from(10, 1);
-    words::claim(b"empty word", empty, 0, 64);
-    words::claim(b"empty word", empty, 63, 1);
-    words::claim(b"empty word", empty, 63, 2);
-    words::claim(b"empty word", empty, 64, 0);
-    words::claim(b"empty word", empty, 64, 1);
-    words::claim(b"empty word", empty, 18446744073709551615, 2);
-    words::claim(b"word with slot 10", tenth, 8, 2);
-    words::claim(b"word with slot 10", tenth, 8, 3);
-    words::free(b"full word", full, 0, 64);
-    words::free(b"full word", full, 63, 1);
-    words::free(b"full word", full, 0, 0);
-    words::free(b"full word", full, 1, 18446744073709551615);
-    words::free(b"empty word", empty, 0, 1);
-    words::free(b"empty word", empty, 60, 5);
-    words::free(b"word with slot 10", tenth, 10, 1);
-    words::free(b"word with slot 10", tenth, 10, 2);
-    words::set(b"empty word", empty, 0, 64, true);
-    words::set(b"word with slot 10", tenth, 8, 4, true);
-    words::set(b"word with slot 10", tenth, 8, 4, false);
-    words::set(b"full word", full, 62, 2, false);
-    words::set(b"full word", full, 62, 3, false);
-    words::set(b"full word", full, 65, 0, false);
+    words::free(names::FULL_WORD, full, 0, 64);
+    words::free(names::FULL_WORD, full, 63, 1);
+    words::free(names::FULL_WORD, full, 0, 0);
+    words::free(names::FULL_WORD, full, 1, 18446744073709551615);
+    words::free(names::EMPTY_WORD, empty, 0, 1);
+    words::free(names::EMPTY_WORD, empty, 60, 5);
+    words::free(names::WORD_WITH_SLOT_10, tenth, 10, 1);
+    words::free(names::WORD_WITH_SLOT_10, tenth, 10, 2);
+}
+
+pub fn word_sets() {
+    let full = Word::new_full();
+    let tenth = used_from(10, 1);
+    words::set(names::EMPTY_WORD, Word::new_empty(), 0, 64, true);
+    words::set(names::WORD_WITH_SLOT_10, tenth, 8, 4, true);
+    words::set(names::WORD_WITH_SLOT_10, tenth, 8, 4, false);
+    words::set(names::FULL_WORD, full, 62, 2, false);
+    words::set(names::FULL_WORD, full, 62, 3, false);
+    words::set(names::FULL_WORD, full, 65, 0, false);
 }
 
 pub fn word_questions() {
     let empty = Word::new_empty();
     let full = Word::new_full();
     let low = used_from(0, 63);
-    words::next_free(b"empty word", empty, 0);
-    words::next_free(b"empty word", empty, 63);
-    words::next_free(b"empty word", empty, 64);
-    words::next_free(b"full word", full, 0);
-    words::next_free(b"full word", full, 18446744073709551615);
-    words::next_free(b"word with slots 0 to 62", low, 5);
-    words::get(b"full word", full, 63);
-    words::get(b"full word", full, 64);
-    words::get(b"empty word", empty, 0);
-    words::get(b"word with slots 0 to 62", low, 62);
-    words::get(b"word with slots 0 to 62", low, 63);
-    words::counts(b"empty word", empty);
-    words::counts(b"full word", full);
-    words::counts(b"word with slots 0 to 62", low);
+    words::next_free(names::EMPTY_WORD, empty, 0);
+    words::next_free(names::EMPTY_WORD, empty, 63);
+    words::next_free(names::EMPTY_WORD, empty, 64);
+    words::next_free(names::FULL_WORD, full, 0);
+    words::next_free(names::FULL_WORD, full, 18446744073709551615);
+    words::next_free(names::WORD_WITH_SLOTS_0_TO_62, low, 5);
+    words::get(names::FULL_WORD, full, 63);
+    words::get(names::FULL_WORD, full, 64);
+    words::get(names::EMPTY_WORD, empty, 0);
+    words::get(names::WORD_WITH_SLOTS_0_TO_62, low, 62);
+    words::get(names::WORD_WITH_SLOTS_0_TO_62, low, 63);
+    words::counts(names::EMPTY_WORD, empty);
+    words::counts(names::FULL_WORD, full);
+    words::counts(names::WORD_WITH_SLOTS_0_TO_62, low);
 }
 
 // ---- the tree map
@@ -152,88 +166,103 @@ fn tree_with(start: usize, n: usize) -> Tree {
 
 pub fn tree_takes() {
     let empty = Tree::new_empty();
-    trees::take(b"empty tree", empty, 1024, 9);
-    trees::take(b"empty tree", empty, 1025, 9);
-    trees::take(b"empty tree", empty, 1025, 10);
-    trees::take(b"empty tree", empty, 0, 10);
-    trees::take(b"empty tree", empty, 1, 10);
-    trees::take(b"empty tree", empty, 18446744073709551615, 0);
-    trees::take(b"empty tree", empty, 1, 18446744073709551615);
-    trees::take(b"full tree", Tree::new_full(), 1, 0);
-    let first = tree_with(0, 1);
-    trees::take(b"tree with slot 0", first, 1, 9);
-    trees::take(b"tree with slot 0", first, 64, 0);
-    trees::take(b"tree with slot 0", first, 1023, 0);
-    trees::take(b"tree with slot 0", first, 1024, 0);
-    trees::take(b"tree with slot 0", first, 512, 9);
-    trees::take(b"tree with slot 0", first, 513, 9);
-    let inner = tree_with(70, 1);
-    trees::take(b"tree with slot 70", inner, 70, 0);
-    trees::take(b"tree with slot 70", inner, 71, 0);
-    trees::take(b"tree with slot 70", inner, 71, 3);
-    trees::take(b"tree with slot 70", inner, 200, 6);
-    let most = tree_with(0, 1023);
-    trees::take(b"tree with slots 0 to 1022", most, 1, 0);
-    trees::take(b"tree with slots 0 to 1022", most, 1, 1);
-    trees::take_in_place(b"tree with slot 70", inner, 71, 3);
-    trees::take_in_place(b"full tree", Tree::new_full(), 1, 0);
+    trees::take(names::EMPTY_TREE, empty, 1024, 9);
+    trees::take(names::EMPTY_TREE, empty, 1025, 9);
+    trees::take(names::EMPTY_TREE, empty, 1025, 10);
+    trees::take(names::EMPTY_TREE, empty, 0, 10);
+    trees::take(names::EMPTY_TREE, empty, 1, 10);
+    trees::take(names::EMPTY_TREE, empty, 18446744073709551615, 0);
+    trees::take(names::EMPTY_TREE, empty, 1, 18446744073709551615);
+    trees::take(names::FULL_TREE, Tree::new_full(), 1, 0);
 }
 
-pub fn tree_changes() {
+pub fn tree_takes_around() {
+    let first = tree_with(0, 1);
+    trees::take(names::TREE_WITH_SLOT_0, first, 1, 9);
+    trees::take(names::TREE_WITH_SLOT_0, first, 64, 0);
+    trees::take(names::TREE_WITH_SLOT_0, first, 1023, 0);
+    trees::take(names::TREE_WITH_SLOT_0, first, 1024, 0);
+    trees::take(names::TREE_WITH_SLOT_0, first, 512, 9);
+    trees::take(names::TREE_WITH_SLOT_0, first, 513, 9);
+}
+
+pub fn tree_takes_across() {
+    let inner = tree_with(70, 1);
+    trees::take(names::TREE_WITH_SLOT_70, inner, 70, 0);
+    trees::take(names::TREE_WITH_SLOT_70, inner, 71, 0);
+    trees::take(names::TREE_WITH_SLOT_70, inner, 71, 3);
+    trees::take(names::TREE_WITH_SLOT_70, inner, 200, 6);
+    let most = tree_with(0, 1023);
+    trees::take(names::TREE_WITH_SLOTS_0_TO_1022, most, 1, 0);
+    trees::take(names::TREE_WITH_SLOTS_0_TO_1022, most, 1, 1);
+    trees::take_in_place(names::TREE_WITH_SLOT_70, inner, 71, 3);
+    trees::take_in_place(names::FULL_TREE, Tree::new_full(), 1, 0);
+}
+
+pub fn tree_claims() {
     let empty = Tree::new_empty();
+    let across = tree_with(60, 8);
+    trees::claim(names::EMPTY_TREE, empty, 0, 1024);
+    trees::claim(names::EMPTY_TREE, empty, 63, 2);
+    trees::claim(names::EMPTY_TREE, empty, 1023, 2);
+    trees::claim(names::EMPTY_TREE, empty, 1024, 0);
+    trees::claim(names::EMPTY_TREE, empty, 1024, 1);
+    trees::claim(names::EMPTY_TREE, empty, 18446744073709551615, 2);
+    trees::claim(names::TREE_WITH_SLOTS_60_TO_67, across, 0, 60);
+    trees::claim(names::TREE_WITH_SLOTS_60_TO_67, across, 0, 61);
+    trees::claim(names::TREE_WITH_SLOTS_60_TO_67, across, 68, 956);
+}
+
+pub fn tree_frees() {
     let full = Tree::new_full();
     let across = tree_with(60, 8);
-    trees::claim(b"empty tree", empty, 0, 1024);
-    trees::claim(b"empty tree", empty, 63, 2);
-    trees::claim(b"empty tree", empty, 1023, 2);
-    trees::claim(b"empty tree", empty, 1024, 0);
-    trees::claim(b"empty tree", empty, 1024, 1);
-    trees::claim(b"empty tree", empty, 18446744073709551615, 2);
-    trees::claim(b"tree with slots 60 to 67", across, 0, 60);
-    trees::claim(b"tree with slots 60 to 67", across, 0, 61);
-    trees::claim(b"tree with slots 60 to 67", across, 68, 956);
-    trees::free(b"full tree", full, 0, 1024);
-    trees::free(b"full tree", full, 63, 2);
-    trees::free(b"full tree", full, 64, 64);
-    trees::free(b"full tree", full, 0, 0);
-    trees::free(b"full tree", full, 1, 18446744073709551615);
-    trees::free(b"empty tree", empty, 0, 1);
-    trees::free(b"tree with slots 60 to 67", across, 60, 8);
-    trees::free(b"tree with slots 60 to 67", across, 60, 9);
-    trees::free(b"tree with slots 60 to 67", across, 62, 4);
-    trees::free(b"tree with slots 60 to 67", across, 64, 4);
-    trees::set(b"tree with slots 60 to 67", across, 50, 100, true);
-    trees::set(b"tree with slots 60 to 67", across, 50, 100, false);
-    trees::set(b"full tree", full, 1000, 24, false);
-    trees::set(b"full tree", full, 1000, 25, false);
-    trees::set(b"full tree", full, 1025, 0, false);
-    trees::free_in_place(b"tree with slots 60 to 67", across, 62, 4);
-    trees::free_in_place(b"tree with slots 60 to 67", across, 60, 9);
+    trees::free(names::FULL_TREE, full, 0, 1024);
+    trees::free(names::FULL_TREE, full, 63, 2);
+    trees::free(names::FULL_TREE, full, 64, 64);
+    trees::free(names::FULL_TREE, full, 0, 0);
+    trees::free(names::FULL_TREE, full, 1, 18446744073709551615);
+    trees::free(names::EMPTY_TREE, Tree::new_empty(), 0, 1);
+    trees::free(names::TREE_WITH_SLOTS_60_TO_67, across, 60, 8);
+    trees::free(names::TREE_WITH_SLOTS_60_TO_67, across, 60, 9);
+    trees::free(names::TREE_WITH_SLOTS_60_TO_67, across, 62, 4);
+    trees::free(names::TREE_WITH_SLOTS_60_TO_67, across, 64, 4);
+}
+
+pub fn tree_sets() {
+    let full = Tree::new_full();
+    let across = tree_with(60, 8);
+    trees::set(names::TREE_WITH_SLOTS_60_TO_67, across, 50, 100, true);
+    trees::set(names::TREE_WITH_SLOTS_60_TO_67, across, 50, 100, false);
+    trees::set(names::FULL_TREE, full, 1000, 24, false);
+    trees::set(names::FULL_TREE, full, 1000, 25, false);
+    trees::set(names::FULL_TREE, full, 1025, 0, false);
+    trees::free_in_place(names::TREE_WITH_SLOTS_60_TO_67, across, 62, 4);
+    trees::free_in_place(names::TREE_WITH_SLOTS_60_TO_67, across, 60, 9);
 }
 
 pub fn tree_questions() {
     let empty = Tree::new_empty();
     let full = Tree::new_full();
     let most = tree_with(0, 1023);
-    trees::next_free(b"empty tree", empty, 0);
-    trees::next_free(b"tree with slots 0 to 1022", most, 0);
-    trees::next_free(b"tree with slots 0 to 1022", most, 1023);
-    trees::next_free(b"full tree", full, 1023);
-    trees::next_free(b"full tree", full, 18446744073709551615);
-    trees::get(b"full tree", full, 1023);
-    trees::get(b"full tree", full, 1024);
-    trees::get(b"empty tree", empty, 0);
-    trees::get(b"tree with slots 0 to 1022", most, 1022);
-    trees::get(b"tree with slots 0 to 1022", most, 1023);
-    trees::counts(b"empty tree", empty);
-    trees::counts(b"full tree", full);
-    trees::counts(b"tree with slots 0 to 1022", most);
+    trees::next_free(names::EMPTY_TREE, empty, 0);
+    trees::next_free(names::TREE_WITH_SLOTS_0_TO_1022, most, 0);
+    trees::next_free(names::TREE_WITH_SLOTS_0_TO_1022, most, 1023);
+    trees::next_free(names::FULL_TREE, full, 1023);
+    trees::next_free(names::FULL_TREE, full, 18446744073709551615);
+    trees::get(names::FULL_TREE, full, 1023);
+    trees::get(names::FULL_TREE, full, 1024);
+    trees::get(names::EMPTY_TREE, empty, 0);
+    trees::get(names::TREE_WITH_SLOTS_0_TO_1022, most, 1022);
+    trees::get(names::TREE_WITH_SLOTS_0_TO_1022, most, 1023);
+    trees::counts(names::EMPTY_TREE, empty);
+    trees::counts(names::FULL_TREE, full);
+    trees::counts(names::TREE_WITH_SLOTS_0_TO_1022, most);
 }
 
 // Every call but capacity refuses a tree whose summary is at odds with its words, before all else.
 pub fn unsound_trees() {
     let bad = Tree::new_empty().with_summary(1);
-    let name = b"no slot under summary 1";
+    let name = names::NO_SLOT_UNDER_SUMMARY_1;
     trees::take(name, bad, 0, 10);
     trees::take_in_place(name, bad, 1, 0);
     trees::claim(name, bad, 18446744073709551615, 2);
@@ -244,6 +273,6 @@ pub fn unsound_trees() {
     trees::get(name, bad, 0);
     trees::counts(name, bad);
     let hidden = Tree::new_full().with_summary(32767);
-    trees::get(b"all slots under summary 32767", hidden, 0);
-    trees::counts(b"all slots under summary 32767", hidden);
+    trees::get(names::ALL_SLOTS_UNDER_SUMMARY_32767, hidden, 0);
+    trees::counts(names::ALL_SLOTS_UNDER_SUMMARY_32767, hidden);
 }

@@ -1,11 +1,12 @@
 // The stories of docs/LESSON.md, each call on the map that the one before left. The lesson's pictures
 // are made of these lines.
+use crate::names;
 use crate::words;
 use word::Word;
 
 // Slots that are freed twice: at once, and after another has taken them again.
 pub fn second_free() {
-    let name = b"a second free";
+    let name = names::A_SECOND_FREE;
     let first = Word::new_empty();
     words::at_first(name, first);
     words::take(name, first, 4, 2);
@@ -20,7 +21,7 @@ pub fn second_free() {
 
 // A free that names no slot, on a map with some.
 pub fn free_of_none() {
-    let name = b"a free of no entries";
+    let name = names::A_FREE_OF_NO_ENTRIES;
     let first = Word::new_empty().claim(0, 6).map;
     words::at_first(name, first);
     words::free(name, first, 0, 0);
@@ -29,11 +30,11 @@ pub fn free_of_none() {
 // The same two calls in two orders.
 pub fn moved_take() {
     let first = Word::new_empty().claim(0, 1).map;
-    let name = b"free, then take";
+    let name = names::FREE_THEN_TAKE;
     words::at_first(name, first);
     words::free(name, first, 0, 1);
     words::take(name, first.free(0, 1).map, 1, 0);
-    let moved = b"take, then free";
+    let moved = names::TAKE_THEN_FREE;
     words::at_first(moved, first);
     words::take(moved, first, 1, 0);
     words::free(moved, first.take(1, 0).map, 0, 1);

@@ -1,7 +1,9 @@
 // The examples of document 01 that are run, each printed with its answer, and the edges of every
 // public function beside them. A program that shares nothing with this one prints the same lines.
+mod asked;
 mod edges;
 mod lesson;
+mod names;
 mod show;
 mod trees;
 mod words;
@@ -16,10 +18,17 @@ fn main() {
     edges::pages();
     edges::clearing();
     edges::word_takes();
-    edges::word_changes();
+    edges::word_takes_around();
+    edges::word_claims();
+    edges::word_frees();
+    edges::word_sets();
     edges::word_questions();
     edges::tree_takes();
-    edges::tree_changes();
+    edges::tree_takes_around();
+    edges::tree_takes_across();
+    edges::tree_claims();
+    edges::tree_frees();
+    edges::tree_sets();
     edges::tree_questions();
     edges::unsound_trees();
     lesson::second_free();
@@ -41,9 +50,9 @@ fn documented() {
     show::overlap(0, 4, 4, 8);
     show::overlap(0, 3, 4, 8);
     show::overlap(5, 3, 0, 10);
-    words::take(b"empty word", Word::new_empty(), 1, 5);
-    words::take(b"empty word", Word::new_empty(), 1, 6);
-    trees::next_free(b"empty tree", Tree::new_empty(), 1023);
-    trees::next_free(b"empty tree", Tree::new_empty(), 1024);
-    trees::next_free(b"full tree", Tree::new_full(), 0);
+    words::take(names::EMPTY_WORD, Word::new_empty(), 1, 5);
+    words::take(names::EMPTY_WORD, Word::new_empty(), 1, 6);
+    trees::next_free(names::EMPTY_TREE, Tree::new_empty(), 1023);
+    trees::next_free(names::EMPTY_TREE, Tree::new_empty(), 1024);
+    trees::next_free(names::FULL_TREE, Tree::new_full(), 0);
 }

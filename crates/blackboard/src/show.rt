@@ -158,17 +158,25 @@ fn held(bytes: &[u8]) {
     }
 }
 
-// The buffer holds the letters a to h; what it holds afterwards stands before the answer.
-pub fn clear(start: usize, end: usize) {
-    let mut bytes = [b'a', b'b', b'c', b'd', b'e', b'f', b'g', b'h'];
-    let answer = spans::clear(&mut bytes, start, end);
-    asked(b"clear ", start as u64, b"..", end as u64);
-    text(b" leaves ");
-    held(&bytes);
+fn clearing_answer(answer: Clearing) {
     match answer {
         Clearing::Cleared => text(b": ok\n"),
         Clearing::Refused(r) => refusal(r),
     }
+}
+
+fn clearing(start: usize, end: usize) {
+    asked(b"clear ", start as u64, b"..", end as u64);
+    text(b" leaves ");
+}
+
+// The buffer holds the letters a to h; what it holds afterwards stands before the answer.
+pub fn clear(start: usize, end: usize) {
+    let mut bytes = [b'a', b'b', b'c', b'd', b'e', b'f', b'g', b'h'];
+    let answer = spans::clear(&mut bytes, start, end);
+    clearing(start, end);
+    held(&bytes);
+    clearing_answer(answer);
 }
 
 // ---- the answers of a map

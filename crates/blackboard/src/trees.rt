@@ -1,5 +1,7 @@
 // The tree map: the map by its name, the call, its answer, and the runs of slots that are then used,
 // with the summary. A refused tree is shown too, since its words and its summary can always be read.
+use crate::asked;
+use crate::names;
 use crate::show;
 use layout::sixteen;
 use tree::Changed;
@@ -53,14 +55,13 @@ fn left(changed: Changed) {
     drawn(changed.map);
 }
 
-pub fn take(name: &[u8], map: Tree, n: usize, a: usize) {
-    show::text(name);
-    show::asked(b": take ", n as u64, b" at a multiple of 2^", a as u64);
+pub fn take(name: u8, map: Tree, n: usize, a: usize) {
+    asked::take(name, n, a);
     left(map.take(n, a));
 }
 
-pub fn take_in_place(name: &[u8], map: Tree, n: usize, a: usize) {
-    show::text(name);
+pub fn take_in_place(name: u8, map: Tree, n: usize, a: usize) {
+    names::put(name);
     show::asked(
         b": take in place ",
         n as u64,
@@ -70,56 +71,43 @@ pub fn take_in_place(name: &[u8], map: Tree, n: usize, a: usize) {
     left(in_place::take_lent(map, n, a));
 }
 
-pub fn claim(name: &[u8], map: Tree, start: usize, n: usize) {
-    show::text(name);
-    show::asked(b": claim from ", start as u64, b", ", n as u64);
+pub fn claim(name: u8, map: Tree, start: usize, n: usize) {
+    asked::claim(name, start, n);
     left(map.claim(start, n));
 }
 
-pub fn free(name: &[u8], map: Tree, start: usize, n: usize) {
-    show::text(name);
-    show::asked(b": free from ", start as u64, b", ", n as u64);
+pub fn free(name: u8, map: Tree, start: usize, n: usize) {
+    asked::free(name, start, n);
     left(map.free(start, n));
 }
 
-pub fn free_in_place(name: &[u8], map: Tree, start: usize, n: usize) {
-    show::text(name);
-    show::asked(b": free in place from ", start as u64, b", ", n as u64);
+pub fn free_in_place(name: u8, map: Tree, start: usize, n: usize) {
+    names::put(name);
+    show::text(b": free in place from ");
+    asked::range(start, n);
     left(in_place::free_lent(map, start, n));
 }
 
-pub fn set(name: &[u8], map: Tree, start: usize, n: usize, used: bool) {
-    show::text(name);
-    if used {
-        show::asked(b": set used from ", start as u64, b", ", n as u64);
-    } else {
-        show::asked(b": set free from ", start as u64, b", ", n as u64);
-    }
+pub fn set(name: u8, map: Tree, start: usize, n: usize, used: bool) {
+    asked::set(name, start, n, used);
     left(map.set(start, n, used));
 }
 
-pub fn next_free(name: &[u8], map: Tree, start: usize) {
-    show::text(name);
-    show::text(b": next free from ");
-    show::number(start as u64);
+pub fn next_free(name: u8, map: Tree, start: usize) {
+    asked::next_free(name, start);
     show::next_free_answer(map.next_free(start));
 }
 
-pub fn get(name: &[u8], map: Tree, slot: usize) {
-    show::text(name);
-    show::text(b": is used ");
-    show::number(slot as u64);
+pub fn get(name: u8, map: Tree, slot: usize) {
+    asked::get(name, slot);
     show::truth_answer(map.get(slot));
 }
 
-pub fn counts(name: &[u8], map: Tree) {
-    show::text(name);
-    show::text(b": empty");
+pub fn counts(name: u8, map: Tree) {
+    asked::empty(name);
     show::truth_answer(map.empty());
-    show::text(name);
-    show::text(b": used");
+    asked::used(name);
     show::number_answer(map.used());
-    show::text(name);
-    show::text(b": capacity");
+    asked::capacity(name);
     show::value(map.capacity() as u64);
 }

@@ -1,4 +1,6 @@
 // The word map: the map by its name, the call, its answer, and the slots that are then used.
+use crate::asked;
+use crate::names;
 use crate::show;
 use answers::Truth;
 use word::Changed;
@@ -38,63 +40,48 @@ fn left(changed: Changed) {
 }
 
 // The map that a story begins with.
-pub fn at_first(name: &[u8], map: Word) {
-    show::text(name);
+pub fn at_first(name: u8, map: Word) {
+    names::put(name);
     show::text(b": at first, leaves ");
     drawn(map);
     show::text(b"\n");
 }
 
-pub fn take(name: &[u8], map: Word, n: usize, a: usize) {
-    show::text(name);
-    show::asked(b": take ", n as u64, b" at a multiple of 2^", a as u64);
+pub fn take(name: u8, map: Word, n: usize, a: usize) {
+    asked::take(name, n, a);
     left(map.take(n, a));
 }
 
-pub fn claim(name: &[u8], map: Word, start: usize, n: usize) {
-    show::text(name);
-    show::asked(b": claim from ", start as u64, b", ", n as u64);
+pub fn claim(name: u8, map: Word, start: usize, n: usize) {
+    asked::claim(name, start, n);
     left(map.claim(start, n));
 }
 
-pub fn free(name: &[u8], map: Word, start: usize, n: usize) {
-    show::text(name);
-    show::asked(b": free from ", start as u64, b", ", n as u64);
+pub fn free(name: u8, map: Word, start: usize, n: usize) {
+    asked::free(name, start, n);
     left(map.free(start, n));
 }
 
-pub fn set(name: &[u8], map: Word, start: usize, n: usize, used: bool) {
-    show::text(name);
-    if used {
-        show::asked(b": set used from ", start as u64, b", ", n as u64);
-    } else {
-        show::asked(b": set free from ", start as u64, b", ", n as u64);
-    }
+pub fn set(name: u8, map: Word, start: usize, n: usize, used: bool) {
+    asked::set(name, start, n, used);
     left(map.set(start, n, used));
 }
 
-pub fn next_free(name: &[u8], map: Word, start: usize) {
-    show::text(name);
-    show::text(b": next free from ");
-    show::number(start as u64);
+pub fn next_free(name: u8, map: Word, start: usize) {
+    asked::next_free(name, start);
     show::next_free_answer(map.next_free(start));
 }
 
-pub fn get(name: &[u8], map: Word, slot: usize) {
-    show::text(name);
-    show::text(b": is used ");
-    show::number(slot as u64);
+pub fn get(name: u8, map: Word, slot: usize) {
+    asked::get(name, slot);
     show::truth_answer(map.get(slot));
 }
 
-pub fn counts(name: &[u8], map: Word) {
-    show::text(name);
-    show::text(b": empty");
+pub fn counts(name: u8, map: Word) {
+    asked::empty(name);
     show::truth_answer(Truth::Is(map.empty()));
-    show::text(name);
-    show::text(b": used");
+    asked::used(name);
     show::value(map.used() as u64);
-    show::text(name);
-    show::text(b": capacity");
+    asked::capacity(name);
     show::value(map.capacity() as u64);
 }

@@ -30,15 +30,15 @@ pub fn free(map: &mut Tree, start: usize, n: usize) -> Answer
 pub fn take_lent(map: Tree, n: usize, a: usize) -> Changed
     ensures { λ r. ⌜ TakeSays map n a r ⌝ }
 {
-    let mut own = map;
-    let answer = take(&mut own, n, a);
-    Changed { answer, map: own }
+    let mut taken = map;
+    let answer = take(&mut taken, n, a);
+    Changed { answer, map: taken }
 }
 
 pub fn free_lent(map: Tree, start: usize, n: usize) -> Changed
     ensures { λ r. ⌜ FreeSays map start n r ⌝ }
 {
-    let mut own = map;
-    let answer = free(&mut own, start, n);
-    Changed { answer, map: own }
+    let mut freed = map;
+    let answer = free(&mut freed, start, n);
+    Changed { answer, map: freed }
 }

@@ -8,7 +8,7 @@ use lib.ListN.{length, getD, take, drop, length-drop}
 use lib.Seq.{drop-length, getD-drop, drop-drop}
 use Rattle.runner.specs.declared.fields.Field.{Field as CodeField}
 use Rattle.runner.specs.declared.fields.Field.the-variants.{Bad, Cut}
-use Rattle.runner.specs.Fields.{Kind, kindOf, mayHold, fieldOf, numberAt, headKind, headLength, afterHead, firstField, header-cut, header-bad, body-cut, body-whole}
+use Rattle.report.specs.Fields.{Kind, kindOf, mayHold, fieldOf, numberAt, headKind, headLength, afterHead, firstField, header-cut, header-bad, body-cut, body-whole}
 use Rattle.runner.specs.Inner.{fieldSays, PieceSays}
 
 -- two bytes further on are two bytes from there

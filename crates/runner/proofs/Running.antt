@@ -19,9 +19,9 @@ use Rattle.tree.specs.Layout.{treeView, slotOf, ofSlots, Sound}
 use Rattle.tree.specs.Contracts.{UsedSays}
 use Rattle.runner.specs.declared.Step.{Step}
 use Rattle.runner.specs.declared.fields.Piece.{Piece}
-use Rattle.runner.specs.Fields.{Field, call, skip, bad, cut, firstField}
-use Rattle.runner.specs.Report.{used, written, carried, reportFrom, report-end, report-reads, reportOf, over, ran, ran-accepted}
-use Rattle.runner.specs.Limits.{report-fits}
+use Rattle.report.specs.Fields.{Field, call, skip, bad, cut, firstField}
+use Rattle.report.specs.Report.{used, written, carried, reportFrom, report-end, report-reads, reportOf, over, ran, ran-accepted}
+use Rattle.report.specs.Limits.{report-fits}
 use Rattle.runner.specs.Inner.{lineSays, fieldSays, PieceSays, StepSays, putAt, put-length, put-over}
 
 pub record Running (bytes before : List ℕ) (map : Tree) (next end : ℕ) (report : List ℕ) : Type 0 where

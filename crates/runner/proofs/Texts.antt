@@ -4,7 +4,7 @@ use mathlib.Core.List.{List, _++_, append-assoc}
 use Prim.Native.Nat.{ℕ, _+_, _≤_}
 use native.Mathlib.Omega.{arith}
 use lib.ListN.{length, length-append}
-use Rattle.runner.specs.Report.{decimal, end, numbered}
+use Rattle.report.specs.Report.{decimal, end, numbered}
 use Rattle.runner.specs.Inner.{putAt, put-length, put-put}
 
 module _ (report word : List ℕ) (offset n : ℕ) (fits : offset + length (numbered word n) ≤ length report) where

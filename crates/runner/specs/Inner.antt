@@ -18,8 +18,8 @@ use Rattle.runner.specs.declared.fields.Field.the-variants.{Take as Fiel
 use Rattle.runner.specs.declared.fields.Piece.{Piece}
 use Rattle.runner.specs.declared.lines.Line.{Line as CodeLine}
 use Rattle.runner.specs.declared.lines.Line.the-variants.{Said as Line·Said, Skipped as Line·Skipped, Stopped as Line·Stopped, Short as Line·Short}
-use Rattle.runner.specs.Fields.{Kind, takes, claims, frees, skips, stops, Field, call, skip, bad, cut, firstField}
-use Rattle.runner.specs.Report.{Line, said, skipped, stopped, short, carried, over}
+use Rattle.report.specs.Fields.{Kind, takes, claims, frees, skips, stops, Field, call, skip, bad, cut, firstField}
+use Rattle.report.specs.Report.{Line, said, skipped, stopped, short, carried, over}
 
 abbrev pub kindSays : CodeKind → Kind
 kindSays Kind·Take = takes

@@ -1,6 +1,1 @@
-pub mod Fields
-pub mod Report
-pub mod Limits
-pub mod Demands
-pub mod Examples
 pub mod Inner

@@ -2,7 +2,7 @@
 ghost use mathlib.Core.Path.{_≡_};
 ghost use Prim.Native.Nat.{_<_};
 ghost use lib.ListN.{length};
-ghost use Rattle.runner.specs.Fields.{kindOf, mayHold, fieldOf, numberAt};
+ghost use Rattle.report.specs.Fields.{kindOf, mayHold, fieldOf, numberAt};
 ghost use Rattle.runner.specs.Inner.{kindSays, fieldSays, PieceSays};
 
 // What a tag asks for.

@@ -10,7 +10,9 @@ use answers::Refusal;
 use fields::Field;
 use lines::Line;
 use tree::Tree;
-ghost use Rattle.runner.specs.Report.{RunSays, OutputSays};
+ghost use Prim.Native.Nat.{_≤_};
+ghost use lib.ListN.{length};
+ghost use Rattle.report.specs.Report.{RunSays, OutputSays};
 ghost use Rattle.runner.specs.Inner.{SaidSays, StepSays};
 
 // The longest record, and room for the longest report that one can have.
@@ -36,6 +38,15 @@ pub fn run(record: &[u8], report: &mut [u8]) -> Number
     if report.len() < REPORT_LEAST {
         return Number::Refused(Refusal::ReportTooShort);
     }
+    reported(record, report)
+}
+
+// Writes the lines of the record's fields, each carried out on the map that the one before left, and
+// last how many slots are used. Answers the report's length.
+fn reported(record: &[u8], report: &mut [u8]) -> Number
+    requires { ⌜ (length (now «record») ≤ 32768) × (54624 ≤ length (now report)) ⌝ }
+    ensures { λ r. ⌜ RunSays (now («record» .entry)) (now (report .entry)) r (now (report .exit)) ⌝ }
+{
     let mut map = Tree::new_empty();
     let mut next = 0;
     let mut length = 0;

@@ -3,7 +3,7 @@ use answers::Answer;
 ghost use mathlib.Core.Path.{_≡_};
 ghost use Prim.Native.Nat.{_+_, _≤_};
 ghost use lib.ListN.{length};
-ghost use Rattle.runner.specs.Report.{written, numbered};
+ghost use Rattle.report.specs.Report.{written, numbered};
 ghost use Rattle.runner.specs.Inner.{lineSays, answerLine, putAt};
 
 // A line of a field: what a call said, or what became of a field that was no call.

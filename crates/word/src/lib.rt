@@ -50,7 +50,8 @@ impl Word {
     pub fn bits(self) -> u64
         ensures { λ r. ⌜ BitsSays self r ⌝ }
     {
-        self.bits
+        let slots = self.bits;
+        slots
     }
 
     // Takes n slots at the lowest free start that is a multiple of 2^a.

@@ -4,7 +4,7 @@ use native.Mathlib.Omega.{arith}
 use lib.ListN.{length}
 use lib.Seq.{length-take-le}
 use borrow.Author.Needs.{needs}
-use Rattle.runner.specs.Demands.{output-inside}
+use Rattle.report.specs.Demands.{output-inside}
 use mathlib.Core.Path.{_≡_}
 use lib.ListN.{length}
 use Rattle.records.proofs.main.Statement.{statement}

@@ -8,8 +8,8 @@ use Rattle.tree.specs.Layout.{slotOf}
 use Rattle.tree.specs.Contracts.{Leaves}
 use Rattle.runner.specs.declared.Step.{Step}
 use Rattle.runner.specs.declared.fields.Field.{Field as CodeField}
-use Rattle.runner.specs.Fields.{call}
-use Rattle.runner.specs.Report.{said, carried}
+use Rattle.report.specs.Fields.{call}
+use Rattle.report.specs.Report.{said, carried}
 use Rattle.runner.specs.Inner.{fieldSays, SaidSays, StepSays}
 use borrow.Author.Needs.{needs}
 use Rattle.runner.proofs.carried_out.Statement.{statement}

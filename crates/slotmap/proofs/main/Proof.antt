@@ -3,7 +3,7 @@ use mathlib.Core.Path.{sym}
 use native.Mathlib.Omega.{arith}
 use lib.Seq.{length-take-le}
 use borrow.Author.Needs.{needs}
-use Rattle.runner.specs.Demands.{output-inside}
+use Rattle.report.specs.Demands.{output-inside}
 use Rattle.slotmap.proofs.main.Statement.{statement}
 use Rattle.slotmap.proofs.main.Tie as tie
 

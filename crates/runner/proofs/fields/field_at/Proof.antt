@@ -4,7 +4,7 @@ use Prim.Native.Nat.{ℕ, _+_, _-_}
 use native.Mathlib.Omega.{arith}
 use lib.ListN.{take, drop}
 use borrow.Author.Tests.{not-true, not-false}
-use Rattle.runner.specs.Fields.{fieldOf}
+use Rattle.report.specs.Fields.{fieldOf}
 use Rattle.runner.specs.Inner.{kindSays}
 use Rattle.runner.proofs.Pieces.{piece-without-header, piece-bad, piece-without-body, piece-whole}
 use borrow.Author.Needs.{needs}

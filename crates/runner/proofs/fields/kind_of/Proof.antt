@@ -1,7 +1,7 @@
 -- `runner::fields::kind_of` meets its contract: a tag by itself, or by its range. Assumes nothing.
 use mathlib.Core.Path.{_≡_, sym, ap}
 use native.Mathlib.Omega.{arith}
-use Rattle.runner.specs.Fields.{kindOf, tags-skipped, tags-stopping}
+use Rattle.report.specs.Fields.{kindOf, tags-skipped, tags-stopping}
 use Rattle.runner.proofs.fields.kind_of.Statement.{statement}
 use Rattle.runner.proofs.fields.kind_of.Tie as tie
 

@@ -1,7 +1,7 @@
 -- `runner::fields::number_at` meets its contract: none, one or two of the bytes are there. Assumes nothing.
 use mathlib.Core.Path.{sym}
 use native.Mathlib.Omega.{arith}
-use Rattle.runner.specs.Fields.{number-none, number-one, number-two}
+use Rattle.report.specs.Fields.{number-none, number-one, number-two}
 use mathlib.Core.Path.{sym}
 use borrow.Author.Needs.{needs}
 use Rattle.runner.proofs.fields.number_at.Statement.{statement}

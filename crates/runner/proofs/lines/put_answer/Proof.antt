@@ -3,7 +3,7 @@ use mathlib.Core.Path.{sym, ap, _∙_}
 use Prim.Native.Nat.{ℕ}
 use Rattle.answers.specs.declared.Answer.{Answer}
 use Rattle.answers.specs.Said.{refused}
-use Rattle.runner.specs.Report.{said, written}
+use Rattle.report.specs.Report.{said, written}
 use Rattle.runner.specs.Inner.{answerLine}
 use Rattle.runner.proofs.Texts.{room-for, put-as}
 use borrow.Author.Needs.{needs}

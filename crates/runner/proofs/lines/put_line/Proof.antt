@@ -1,7 +1,7 @@
 -- `runner::lines::put_line` meets its contract: each line's words. Assumes nothing.
 use mathlib.Core.Path.{ap}
 use Rattle.runner.specs.declared.lines.Line.{Line as CodeLine}
-use Rattle.runner.specs.Report.{written}
+use Rattle.report.specs.Report.{written}
 use Rattle.runner.specs.Inner.{lineSays}
 use Rattle.runner.proofs.Texts.{room-for, put-as}
 use borrow.Author.Needs.{needs}

@@ -3,7 +3,7 @@ use mathlib.Core.Path.{_≡_, sym, _∙_}
 use Prim.Native.Nat.{_+_, _≤_}
 use native.Mathlib.Omega.{arith}
 use lib.ListN.{length, take}
-use Rattle.runner.specs.Report.{decimal, numbered}
+use Rattle.report.specs.Report.{decimal, numbered}
 use Rattle.runner.proofs.Decimals.{decimal-digits}
 use Rattle.runner.proofs.Texts.{word-fits, digits-fit, end-fits, all-put, all-length}
 use borrow.Author.Needs.{needs}

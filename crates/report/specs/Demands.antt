@@ -1,0 +1,147 @@
+-- What the runner owes: its refusals, 12 before 11, with every byte of the buffer kept; one outcome; each line the answer of its own call on the map
+-- that the one before left, as a series of demand 3; and so that the record of its accepted calls, walked backward, brings its tree back to the
+-- empty one. Rests on `Report` and on the tree's demands.
+use mathlib.Core.Path.{_≡_, refl, sym, ap, subst, _∙_}
+use mathlib.Core.Logic.{_↔_}
+use mathlib.Core.List.{List, [], _∷_, _++_}
+use Prim.Native.Nat.{ℕ, _+_, _≤_, _<_}
+use native.Mathlib.Omega.{arith}
+use lib.Dec.{ltb}
+use lib.ListN.{length, drop, length-append}
+use borrow.Author.Tests.{ltb-true, ltb-false}
+use Rattle.answers.specs.Said.{Said, value, refused, _when_, leaving-says, leaving-refused, leaving-value}
+use Rattle.answers.specs.Faults.{Fault, _if_, First, NoFault, Finds, judged-refuses, judged-accepts, finds-lt}
+use Rattle.answers.specs.Answers.{Reply, number-says-injective}
+use Rattle.answers.specs.declared.Number.{Number}
+use Rattle.bits.specs.Range.{either}
+use Rattle.slots.specs.Sets.{none}
+use Rattle.slots.specs.Calls.{usedCall}
+use Rattle.slots.specs.Series.{Asked, made, answersOf, lastOf, recordOf, beforeOf, Back}
+use Rattle.tree.specs.declared.Tree.{Tree}
+use Rattle.tree.specs.Layout.{treeView, slotOf}
+use Rattle.tree.specs.Demands.{walked-back}
+use Rattle.report.specs.Fields.{Field, call, skip, bad, cut, fields}
+use Rattle.report.specs.Report.{Line, said, skipped, stopped, short, used, carried, linesOf, emptyTree, reportOf, over, ran, RunSays, outputOf, output-big, output-report, OutputSays}
+use Rattle.report.specs.Limits.{report-fits}
+
+-- ---- refusals
+
+module _ (bytes buffer : List ℕ) where
+  abbrev pub faults : List Fault
+  faults = (12 if (32768 < length bytes)) ∷ (11 if (length buffer < 54624)) ∷ []
+
+  found : Finds ((12 when ltb 32768 (length bytes)) ∷ (11 when ltb (length buffer) 54624) ∷ []) faults
+  found = (refl, finds-lt 32768 (length bytes), λ _. (refl, finds-lt (length buffer) 54624, λ _. tt))
+
+  -- refused by the first fault that holds, and accepted, with the report's length, exactly when none does
+  pub run-refuses : (k : ℕ) → (ran bytes buffer .0 ≡ refused k) ↔ First k faults
+  unfolding ran
+  run-refuses k = rw (leaving-says (λ _. over (reportOf bytes) buffer) buffer _) (judged-refuses _ faults (length (reportOf bytes)) k found)
+
+  pub run-accepts : (n : ℕ) → (ran bytes buffer .0 ≡ value n) ↔ (NoFault faults × (length (reportOf bytes) ≡ n))
+  unfolding ran
+  run-accepts n = rw (leaving-says (λ _. over (reportOf bytes) buffer) buffer _) (judged-accepts _ faults (length (reportOf bytes)) n found)
+
+  -- a refused run keeps every byte; an accepted one writes the report and keeps every byte after it
+  pub run-refused : (k : ℕ) → ran bytes buffer .0 ≡ refused k → ran bytes buffer .1 ≡ buffer
+  unfolding ran
+  run-refused k = leaving-refused (λ _. over (reportOf bytes) buffer) buffer _ k
+
+  pub run-accepted : (n : ℕ) → ran bytes buffer .0 ≡ value n → ran bytes buffer .1 ≡ reportOf bytes ++ drop (length (reportOf bytes)) buffer
+  unfolding ran
+  run-accepted n = leaving-value (λ _. over (reportOf bytes) buffer) buffer _ n
+
+  pub run-one-answer : (r q : Number) (after other : List ℕ) → RunSays bytes buffer r after → RunSays bytes buffer q other → (r ≡ q) × (after ≡ other)
+  run-one-answer r q after other p o = (number-says-injective r q (ap (λ x. x .0) (p ∙ sym o)), ap (λ x. x .1) (p ∙ sym o))
+
+-- what the program writes: one outcome, and it always fits
+module _ (bytes : List ℕ) where
+  pub output-one-answer : (before : List ℕ) (r q : ℕ) (after other : List ℕ) → OutputSays bytes before r after → OutputSays bytes before q other → (r ≡ q) × (after ≡ other)
+  output-one-answer before r q after other p o = (ap (λ x. x .0) (p ∙ sym o), ap (λ x. x .1) (p ∙ sym o))
+
+  -- its length is that of a part of the buffer
+  pub output-inside : (before : List ℕ) (r : ℕ) (after : List ℕ) → OutputSays bytes before r after → r ≤ length after
+  output-inside before r after p =
+      let ends : r ≡ length (outputOf bytes) = ap (λ x. x .0) p in
+      let long : length after ≡ length (outputOf bytes) + length (drop (length (outputOf bytes)) before) =
+      ap (λ x. length (x .1)) p ∙ length-append (outputOf bytes) (drop (length (outputOf bytes)) before) in
+      omega (arith, ends, long)
+
+  pub output-fits : length (outputOf bytes) ≤ 54624
+  output-fits =
+      either (ltb 32768 (length bytes))
+      (λ long. rw (output-big bytes (ltb-true _ _ long)) (omega arith))
+      (λ limit. let short-enough = report-fits bytes (ltb-false _ _ limit) in rw (output-report bytes (ltb-false _ _ limit)) (omega (arith, short-enough)))
+
+-- ---- a run is a series of demand 3
+
+-- the calls among some fields, and the map that they leave
+abbrev pub callsOf : List Field → List Asked
+callsOf [] = []
+callsOf (call asked ∷ rest) = asked ∷ callsOf rest
+callsOf (skip ∷ rest) = callsOf rest
+callsOf (bad ∷ rest) = callsOf rest
+callsOf (cut ∷ rest) = callsOf rest
+
+abbrev pub leftBy : Tree → List Field → Tree
+leftBy t [] = t
+leftBy t (field ∷ rest) = leftBy (carried t field .1) rest
+
+-- what the calls said, as the lines have it
+abbrev pub saidIn : List Line → List (Said Reply)
+saidIn [] = []
+saidIn (said answer ∷ rest) = answer ∷ saidIn rest
+saidIn (skipped ∷ rest) = saidIn rest
+saidIn (stopped ∷ rest) = saidIn rest
+saidIn (short ∷ rest) = saidIn rest
+saidIn (used n ∷ rest) = saidIn rest
+
+-- the last line
+abbrev pub lastIn : Line → List Line → Line
+lastIn line [] = line
+lastIn line (next ∷ rest) = lastIn next rest
+
+pub left-last : (t : Tree) (fs : List Field) → leftBy t fs ≡ lastOf treeView t (callsOf fs)
+left-last t [] = refl
+left-last t (call asked ∷ rest) = left-last (made treeView t asked .1) rest
+left-last t (skip ∷ rest) = left-last t rest
+left-last t (bad ∷ rest) = left-last t rest
+left-last t (cut ∷ rest) = left-last t rest
+
+-- each call's line is its own answer, on the map that the one before left
+pub lines-answer : (t : Tree) (fs : List Field) → saidIn (linesOf t fs) ≡ answersOf treeView t (callsOf fs)
+unfolding linesOf
+lines-answer t [] = refl
+lines-answer t (call asked ∷ rest) = ap (λ (more : List (Said Reply)). made treeView t asked .0 ∷ more) (lines-answer (made treeView t asked .1) rest)
+lines-answer t (skip ∷ rest) = lines-answer t rest
+lines-answer t (bad ∷ rest) = lines-answer t rest
+lines-answer t (cut ∷ rest) = lines-answer t rest
+
+-- the last line counts the slots of the map that is left
+pub last-counts : (t : Tree) (fs : List Field) (line : Line) → lastIn line (linesOf t fs) ≡ used (usedCall 10 (slotOf (leftBy t fs)) .answer)
+unfolding linesOf
+last-counts t [] line = refl
+last-counts t (field ∷ rest) line = last-counts (carried t field .1) rest (carried t field .0)
+
+-- ---- of the runner, which starts from the empty tree
+
+module _ (bytes : List ℕ) where
+  abbrev pub asked : List Asked
+  asked = callsOf (fields bytes)
+
+  abbrev pub left : Tree
+  left = leftBy emptyTree (fields bytes)
+
+  pub run-answers : saidIn (linesOf emptyTree (fields bytes)) ≡ answersOf treeView emptyTree asked
+  run-answers = lines-answer emptyTree (fields bytes)
+
+  pub run-counts : (line : Line) → lastIn line (linesOf emptyTree (fields bytes)) ≡ used (usedCall 10 (slotOf left) .answer)
+  run-counts line = last-counts emptyTree (fields bytes) line
+
+  -- walked backward from the tree that the run leaves, the record of its accepted calls is accepted step by step, meets the maps that stood before
+  -- each of them, and comes to the empty tree
+  pub run-walked-back : Back treeView left (recordOf treeView emptyTree asked) (beforeOf treeView emptyTree asked) emptyTree
+  run-walked-back =
+      subst (λ (last : Tree). Back treeView last (recordOf treeView emptyTree asked) (beforeOf treeView emptyTree asked) emptyTree)
+      (sym (left-last emptyTree (fields bytes)))
+      (walked-back emptyTree (treeView .made-sound none) (treeView .made-map none) asked)

@@ -1,0 +1,5 @@
+pub mod Fields
+pub mod Report
+pub mod Limits
+pub mod Demands
+pub mod Examples
