@@ -88,6 +88,16 @@ pub enum Op {
 }
 
 impl Op {
+    /// Every call that is compared.
+    pub fn all() -> Vec<Op> {
+        let acts = [Act::Take, Act::Claim, Act::Free, Act::Set, Act::NextFree, Act::Get, Act::Empty, Act::Used];
+        let maps = [Layout::Tree, Layout::Word].into_iter().flat_map(|map| acts.map(|act| Op::Slots(map, act)));
+        let in_place = [Act::Take, Act::Free].map(|act| Op::Slots(Layout::InPlace, act));
+        let round = [64, 32].into_iter().flat_map(|width| [Way::Up, Way::Down, Way::Is].map(|way| Op::Round(way, width)));
+        let others = [Op::PageUp, Op::Pages, Op::PageOffset, Op::Overlap, Op::Bit, Op::Mask];
+        maps.chain(in_place).chain(round).chain(others).collect()
+    }
+
     /// The number by which a request names the call.
     pub fn code(self) -> u8 {
         match self {

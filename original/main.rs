@@ -39,6 +39,9 @@ use stubs::{address, types};
 /// So many calls are made, written and judged at a time.
 const BLOCK: usize = 1024;
 
+/// From so many calls on, each kind of call and each departure has to be among them.
+const ENOUGH: u64 = 1_000_000;
+
 struct Options {
     calls: u64,
     seed: u64,
@@ -64,6 +67,9 @@ fn main() {
     let tally = compared(&options).unwrap_or_else(|words| fail(&words));
     println!("{} calls of seed {} in {} s", tally.calls, options.seed, began.elapsed().as_secs());
     println!("{tally}0 unlisted differences");
+    if options.calls >= ENOUGH && !tally.absent().is_empty() {
+        fail(&format!("nothing was seen of: {}", tally.absent().join(", ")));
+    }
 }
 
 fn fail(words: &str) -> ! {

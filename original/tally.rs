@@ -1,6 +1,6 @@
 //! What was seen: the calls of each kind, those without an answer of the original, and the departures.
 
-use crate::calls::Request;
+use crate::calls::{Op, Request};
 use crate::departures;
 use crate::rules::Verdict;
 use std::collections::BTreeMap;
@@ -36,6 +36,15 @@ impl Tally {
             Verdict::Departure(rule) => self.departures[rule] += 1,
             Verdict::Unlisted => {}
         }
+    }
+}
+
+impl Tally {
+    /// The kinds of call and of departure of which nothing was seen, by name.
+    pub fn absent(&self) -> Vec<String> {
+        let calls = Op::all().into_iter().filter(|op| !self.kinds.contains_key(&op.code())).map(Op::name);
+        let departures = departures::LIST.iter().zip(self.departures).filter(|(_, count)| *count == 0);
+        calls.chain(departures.map(|((name, _), _)| name.to_string())).collect()
     }
 }
 

@@ -2,6 +2,8 @@
 // A place is counted from the lowest, 0, to the highest, 63. Rests on `answers`.
 use answers::Number;
 use answers::Refusal;
+ghost use mathlib.Core.Path.{_≡_};
+ghost use Prim.Native.Nat.{min};
 ghost use Rattle.bits.specs.Masks.{LowMaskSays, OneBitSays, MaskSays};
 
 const ALL: u64 = 0xffff_ffff_ffff_ffff;
@@ -76,13 +78,22 @@ const LOW_MASKS: [u64; 65] = [
 ];
 
 // The number with ones in the k lowest places, read from the table; all 64 places for a k above 64.
+// Never refused.
 pub fn low_mask(k: usize) -> u64
     ensures { λ r. ⌜ LowMaskSays k r ⌝ }
 {
+    let width = at_most_64(k);
+    LOW_MASKS[width]
+}
+
+// The lesser of k and 64: the entry of the table that k asks for.
+fn at_most_64(k: usize) -> usize
+    ensures { λ r. ⌜ r ≡ min k 64 ⌝ }
+{
     if 64 < k {
-        return ALL;
+        return 64;
     }
-    LOW_MASKS[k]
+    k
 }
 
 // The number with a one at this place alone; refused with 4 for a place above 63.

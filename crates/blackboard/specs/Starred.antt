@@ -17,6 +17,7 @@ use Rattle.slots.specs.Layouts.{listed}
 use Rattle.layout.specs.Painting.{slotIn}
 use Rattle.tree.specs.declared.Tree.{Tree}
 use Rattle.tree.specs.Layout.{treeOf, treeView, slotOf}
+use Rattle.tree.specs.Contracts.{NewEmptySays, NewFullSays}
 
 -- ---- trees, written out
 
@@ -33,6 +34,15 @@ emptyTree = written [] 0
 
 abbrev pub fullTree : Tree
 fullTree = treeOf (listed (λ i. 2 ^ 64 - 1) 0 16) 65535
+
+-- they are the trees that the contracts of `new_empty` and `new_full` name
+pub is-the-empty-tree : (r : Tree) → NewEmptySays r → r ≡ emptyTree
+unfolding number listed
+is-the-empty-tree r made = made
+
+pub is-the-full-tree : (r : Tree) → NewFullSays r → r ≡ fullTree
+unfolding number listed
+is-the-full-tree r made = made
 
 -- only slot 0 is used, only slot 63, only slot 1,023
 abbrev pub only0 : Tree

@@ -29,6 +29,14 @@ TakesSays words n a times r after = After words (takesOf n a times) r after
 abbrev pub FreesSays : List ℕ → List ℕ → ℕ → ℕ → List ℕ → Type 0
 FreesSays words starts n r after = After words (freesOf starts n) r after
 
--- one outcome
-pub one-answer : (words : List ℕ) (calls : List Asked) (r q : ℕ) (after other : List ℕ) → After words calls r after → After words calls q other → (r ≡ q) × (after ≡ other)
+-- one outcome, of any series
+one-answer : (words : List ℕ) (calls : List Asked) (r q : ℕ) (after other : List ℕ) → After words calls r after → After words calls q other → (r ≡ q) × (after ≡ other)
 one-answer words calls r q after other p o = (ap (λ x. x .0) (p ∙ sym o), ap (λ x. x .1) (p ∙ sym o))
+
+pub takes-one-answer : (words : List ℕ) (n a times r q : ℕ) (after other : List ℕ) → TakesSays words n a times r after → TakesSays words n a times q other
+    → (r ≡ q) × (after ≡ other)
+takes-one-answer words n a times = one-answer words (takesOf n a times)
+
+pub frees-one-answer : (words starts : List ℕ) (n r q : ℕ) (after other : List ℕ) → FreesSays words starts n r after → FreesSays words starts n q other
+    → (r ≡ q) × (after ≡ other)
+frees-one-answer words starts n = one-answer words (freesOf starts n)

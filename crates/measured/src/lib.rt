@@ -5,7 +5,8 @@ use layout::sixteen;
 use tree::Tree;
 ghost use Rattle.measured.specs.Series.{TakesSays, FreesSays};
 
-// So many takes of n slots at a multiple of 2^a. Answers how many slots are used then.
+// So many takes of n slots at a multiple of 2^a; a take that is refused changes nothing. Answers how
+// many slots are used then. Never refused.
 #[no_mangle]
 pub extern "C" fn slots_takes(words: &mut [u64; 16], n: usize, a: usize, times: usize) -> usize
     ensures { λ r. ⌜ TakesSays (now (words .entry)) n a times r (now (words .exit)) ⌝ }
@@ -20,7 +21,8 @@ pub extern "C" fn slots_takes(words: &mut [u64; 16], n: usize, a: usize, times: 
     sixteen::count(words)
 }
 
-// A free of n slots from each of the starts. Answers how many slots are used then.
+// A free of n slots from each of the starts; a free that is refused changes nothing. Answers how many
+// slots are used then. Never refused.
 #[no_mangle]
 pub extern "C" fn slots_frees(words: &mut [u64; 16], starts: &[u64], n: usize) -> usize
     ensures { λ r. ⌜ FreesSays (now (words .entry)) (now (starts .entry)) n r (now (words .exit)) ⌝ }

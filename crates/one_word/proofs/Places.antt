@@ -3,15 +3,15 @@ use mathlib.Core.Path.{_≡_, refl, sym, ap, ap₂, _∙_}
 use mathlib.Core.Logic.{_↔_}
 use mathlib.Core.Bool.{Bool, true, false, not, _&&_, _||_}
 use Prim.Native.Nat.{ℕ, _+_, _-_, _*_, _/_, _%_, _^_, _≤_, _<_, zero-le, min}
-use native.Mathlib.Nat.{lt-of-le-of-lt, lt-of-lt-of-le, le-of-lt, mod-lt, min-eq-right}
+use native.Mathlib.Nat.{lt-of-le-of-lt, mod-lt, min-eq-right}
 use native.Mathlib.Omega.{arith}
 use lib.Bits.{bitAnd, bitOr, or-lt, and-le-l, and-comm}
 use lib.Dec.{T, leb, ltb, eqb, eqb→eq, eqb-refl, ltb→lt, lt→ltb}
 use lib.Count.{trailingZeros}
-use lib.Pow.{pow-pos, pow-mono, ones-lt}
-use borrow.Author.Tests.{lt-ltb, leb-true, not-true, not-false, ltb-true, ltb-false, le-ltb}
-use Rattle.bits.specs.Range.{and-true, and-false, or-true, within, least, least-from, least-to, least-passes, least-first, least-is, least-none, either, same-test, every, finds-every, within-other}
-use Rattle.bits.specs.Digits.{digit, number, number-is, equal-digits, zero-digit, and-digit, or-digit, complement-digit, shifted-digit, low-mask-digit, run-digit, trailing-least}
+use lib.Pow.{pow-pos}
+use borrow.Author.Tests.{lt-ltb, leb-true, le-leb, not-true, ltb-true, ltb-false}
+use Rattle.bits.specs.Range.{and-true, and-false, within, least, least-from, least-to, least-passes, least-first, least-is, least-none, either, same-test, every, finds-every, within-other}
+use Rattle.bits.specs.Digits.{digit, number, number-is, equal-digits, zero-digit, and-digit, or-digit, complement-digit, down-digit, shifted-digit, low-mask-digit, run-digit, trailing-least}
 use Rattle.one_word.specs.OneWord.{paintedPlace}
 
 -- ---- masks for a run
@@ -104,29 +104,29 @@ module _ (w word mask : ℕ) (word-held : word < 2 ^ w) (mask-held : mask < 2 ^ 
       chosen false true = refl
       chosen false false = refl
 
--- ---- the first free place: trailing zeros of the complement, once the places below s count as used
+-- ---- the first free place: trailing zeros of the complement, whose places below s are shifted out
 
 module _ (w word s : ℕ) (word-held : word < 2 ^ w) (inside : s < w) where
   abbrev left : ℕ
-  left = (2 ^ w - 1) - bitOr word (2 ^ s - 1)
+  left = ((2 ^ w - 1) - word) / 2 ^ s * 2 ^ s % 2 ^ w
 
   abbrev free : ℕ → Bool
   free i = not (digit word i)
 
-  below-held : 2 ^ s - 1 < 2 ^ w
-  below-held = lt-of-lt-of-le (ones-lt s) (pow-mono (le-of-lt inside))
-
-  left-digit : (i : ℕ) → i < w → digit left i ≡ not (digit word i || ltb i s)
+  left-digit : (i : ℕ) → i < w → digit left i ≡ leb s i && free i
   left-digit i l =
-      complement-digit w _ i (or-lt w word _ word-held below-held) l
-      ∙ ap not (or-digit word (2 ^ s - 1) i ∙ ap (λ (b : Bool). digit word i || b) (low-mask-digit s i))
+      shifted-digit (((2 ^ w - 1) - word) / 2 ^ s) s w i
+      ∙ either (leb s i)
+      (λ e.
+      let back : s + (i - s) ≡ i = omega (arith, leb-true s i e) in
+      rw (lt-ltb i w l, e, down-digit ((2 ^ w - 1) - word) s (i - s), back) (complement-digit w word i word-held l))
+      (λ e. rw (lt-ltb i w l, e))
 
   -- every place before the first free one is used or below s
   passed-over : (i : ℕ) → i < w → i < least free s (w - s) → digit left i ≡ false
   passed-over i l before =
       left-digit i l
-      ∙ either (ltb i s) (λ e. rw (e, or-true (digit word i)))
-      (λ e. rw (not-false (digit word i) (least-first free s (w - s) i (ltb-false i s e) before)))
+      ∙ either (leb s i) (λ e. rw (e, least-first free s (w - s) i (leb-true s i e) before)) (λ e. rw e)
 
   pub first-by-zeros : trailingZeros w left ≡ least free s (w - s)
   first-by-zeros =
@@ -137,7 +137,7 @@ module _ (w word s : ℕ) (word-held : word < 2 ^ w) (inside : s < w) where
       (λ e.
       let found : place < w = ltb-true place w e in
       least-is (digit left) 0 w place zero-le (omega arith)
-      (left-digit place found ∙ rw (not-true (digit word place) (least-passes free s (w - s) (omega arith)), le-ltb place s (least-from free s (w - s))))
+      (left-digit place found ∙ rw (le-leb s place (least-from free s (w - s)), least-passes free s (w - s) (omega arith)))
       (λ i _ before. passed-over i (omega arith) before))
       (λ e.
       let none : w ≤ place = ltb-false place w e in

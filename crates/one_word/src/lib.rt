@@ -72,14 +72,14 @@ pub fn paint(word: u64, mask: u64, used: bool) -> u64
 }
 
 // The least free place from `from` on, or 64 where there is none: the trailing zeros of the
-// complement, once the places below `from` count as used.
+// complement, of which the places below `from` are shifted out and back in as zeros.
 pub fn first_free(word: u64, from: usize) -> usize
     ensures { λ r. ⌜ FirstFreeSays word from r ⌝ }
 {
     if 64 <= from {
         return 64;
     }
-    zeros(!(word | ((1 << from) - 1)))
+    zeros((!word >> from) << from)
 }
 
 fn zeros(x: u64) -> usize

@@ -161,7 +161,7 @@ fieldsWithin zero bytes = []
 fieldsWithin (suc n) [] = []
 fieldsWithin (suc n) (b ∷ bytes) = let first = firstField (b ∷ bytes) in first .0 ∷ fieldsWithin n (first .1)
 
--- all of them: there are fewer than there are bytes
+-- all of them: there are no more than there are bytes
 unfoldable pub fields : List ℕ → List Field
 fields bytes = fieldsWithin (length bytes) bytes
 

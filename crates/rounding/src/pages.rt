@@ -23,7 +23,7 @@ pub fn round_to_pages(x: u64) -> Number
     Number::Is(end / PAGE_SIZE)
 }
 
-// How far x lies into its page.
+// How far x lies into its page. Never refused.
 pub fn page_offset(x: u64) -> u64
     ensures { λ r. ⌜ PageOffsetSays x r ⌝ }
 {

@@ -28,7 +28,7 @@ struct Step {
 
 // Writes the report of the record at the start of `report`, and answers its length; the bytes after
 // it stay. Refused with 12 where the record is longer than 32,768 bytes, and then with 11 where the
-// buffer is shorter than 54,624.
+// buffer is shorter than 54,624. A refusal leaves every byte of the buffer as it was.
 pub fn run(record: &[u8], report: &mut [u8]) -> Number
     ensures { λ r. ⌜ RunSays (now («record» .entry)) (now (report .entry)) r (now (report .exit)) ⌝ }
 {
@@ -67,7 +67,8 @@ fn reported(record: &[u8], report: &mut [u8]) -> Number
 }
 
 // What the program writes for the record: its report, or where the record is too long only the line
-// `big`. It stands at the start of `text`, and the bytes after it stay. Answers its length.
+// `big`. It stands at the start of `text`, and the bytes after it stay. Answers its length. Never
+// refused.
 pub fn output(record: &[u8], text: &mut [u8; 54624]) -> usize
     ensures { λ r. ⌜ OutputSays (now («record» .entry)) (now (text .entry)) r (now (text .exit)) ⌝ }
 {

@@ -1,6 +1,7 @@
 -- The lesson's examples, on a map of four slots, as statements that antt computes: why a take cannot be moved, and what becomes of a second free.
 -- Rests on `Series`.
-use mathlib.Core.Path.{_≡_, refl}
+use mathlib.Core.Path.{_≡_, refl, _∙_}
+use mathlib.Core.Logic.{_↔_}
 use mathlib.Core.Bool.{Bool, true, false}
 use mathlib.Core.List.{List, [], _∷_, Perm, Perm·swap}
 use Prim.Native.Nat.{ℕ}
@@ -9,12 +10,13 @@ use Rattle.answers.specs.Said.{value, refused, judged, leaving}
 use Rattle.answers.specs.Answers.{at, ok}
 use Rattle.bits.specs.Range.{least, every, within}
 use Rattle.bits.specs.Digits.{digit, number}
-use Rattle.slots.specs.Sets.{allFree, allUsed, painted}
+use Rattle.slots.specs.Sets.{allFree, allUsed, painted, AllUsed}
 use Rattle.slots.specs.Lowest.{fitsAt, lowest}
 use Rattle.slots.specs.Calls.{takeCall, freeCall}
+use Rattle.slots.specs.Promises.{InRange, free-promise}
 use Rattle.slots.specs.Records.{Entry, naming-any-order}
-use Rattle.slots.specs.View.{View, answered, changed}
-use Rattle.slots.specs.Series.{Asked, take, free, answersOf, recordOf, lastOf}
+use Rattle.slots.specs.View.{View, answered, changed, changed-says, sound-answers}
+use Rattle.slots.specs.Series.{Asked, take, free, made, answersOf, recordOf, lastOf, last-sound}
 use Rattle.slots.specs.Layouts.{digitsView}
 
 -- four slots in one number: slot s is digit s
@@ -54,6 +56,15 @@ pub a-second-free : (answersOf four 0 (take 1 0 ∷ free 0 1 ∷ free 0 1 ∷ []
     × (answersOf four 0 (take 1 0 ∷ free 0 1 ∷ take 1 0 ∷ free 0 1 ∷ []) ≡ value (at 0) ∷ value ok ∷ value (at 0) ∷ value ok ∷ [])
 unfolding changed answered leaving judged takeCall freeCall lowest fitsAt least every within allFree allUsed painted digit number
 a-second-free = (refl, refl, refl)
+
+-- and in general, over any layout: after any series of calls, whoever made them, a free of a range is accepted exactly when all its slots are used
+pub a-later-free : (L : View) (m : L .Map) → L .Sound m → (cs : List Asked) (s n : ℕ) → InRange (L .k) s n
+    → (made L (lastOf L m cs) (free s n) .0 ≡ value ok) ↔ AllUsed (L .slotOf (lastOf L m cs)) s n
+a-later-free L m sound cs s n range =
+    let last : L .Map = lastOf L m cs in
+    let accepts = free-promise (L .k) (L .slotOf last) s n in
+    rw (changed-says L last (freeCall (L .k) (L .slotOf last) s n) ∙ sound-answers L last _ (last-sound L m sound cs))
+    (λ said. accepts .0 said .1, λ used. accepts .1 (range, used))
 
 -- a free of no entries is refused, whatever the map
 pub a-free-of-none : (m : ℕ) → answersOf four m (free 0 0 ∷ []) ≡ refused 2 ∷ []

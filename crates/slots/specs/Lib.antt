@@ -4,7 +4,6 @@ pub mod Calls
 pub mod Promises
 pub mod Search
 pub mod Tries
-pub mod Ways
 pub mod Records
 pub mod View
 pub mod Series

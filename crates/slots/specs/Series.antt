@@ -134,6 +134,11 @@ module _ (L : View) where
   last-then m [] ds = refl
   last-then m (c ∷ cs) ds = last-then (made m c .1) cs ds
 
+  -- a series from a sound map ends in a sound map
+  pub last-sound : (m : L .Map) → L .Sound m → (cs : List Asked) → L .Sound (lastOf m cs)
+  last-sound m sound [] = sound
+  last-sound m sound (c ∷ cs) = last-sound (made m c .1) (changed-sound L m _ sound) cs
+
   all-done-then : (xs ys : List (Said Reply)) → AllDone xs → AllDone ys → AllDone (xs ++ ys)
   all-done-then [] ys d e = e
   all-done-then (x ∷ xs) ys d e = (d .0, all-done-then xs ys (d .1) e)

@@ -28,6 +28,7 @@ pub enum Clearing {
 
 // Writes zero to the bytes from offset `start` up to, not including, offset `end`, and to no other;
 // refused with 4 where the buffer ends before `end`, and then with 10 where `end` is before `start`.
+// A refusal leaves every byte as it was.
 pub fn clear(bytes: &mut [u8], start: usize, end: usize) -> Clearing
     ensures { λ r. ⌜ ClearSays (now (bytes .entry)) start end r (now (bytes .exit)) ⌝ }
 {

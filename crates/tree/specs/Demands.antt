@@ -12,7 +12,7 @@ use Rattle.answers.specs.Answers.{Reply, at, ok, answerSays, nextFreeSays, trut
 use Rattle.answers.specs.declared.NextFree.{NextFree}
 use Rattle.answers.specs.declared.Number.{Number}
 use Rattle.answers.specs.declared.Truth.{Truth}
-use Rattle.bits.specs.Digits.{number-lt}
+use Rattle.bits.specs.Digits.{number, number-lt}
 use Rattle.bits.specs.Range.{count}
 use Rattle.slots.specs.Sets.{none, all, painted, AllFree, AllUsed}
 use Rattle.slots.specs.Lowest.{LowestFit, NoStart, lowest}
@@ -37,6 +37,11 @@ empty-is-sound r e = rw e (treeView .made-sound none)
 
 pub full-is-sound : (r : Tree) → NewFullSays r → Sound r
 full-is-sound r e = rw e (treeView .made-sound all)
+
+-- the full summary is 65,535
+pub full-summary : (r : Tree) → NewFullSays r → r .summary ≡ 65535
+unfolding number
+full-summary r e = ap (λ (t : Tree). t .summary) e
 
 -- a tree made of words is sound, and holds their slots
 pub holding-is-sound : (words : List ℕ) (r : Tree) → HoldingSays words r → Sound r

@@ -1,7 +1,8 @@
 // The tree map: 1,024 slots in sixteen words, under a summary. A call takes the map by value and
 // hands it back with its answer; a refused call hands back the very map. A tree is sound when summary
-// bit i is 1 exactly if word i is not 0: every call but capacity refuses any other with 1, before all
-// else. Rests on `layout`.
+// bit i is 1 exactly if word i is not 0. Take, claim, free, set, next_free, get, empty and used refuse
+// any other with 1, before all else. Capacity, and what makes a tree or reads its words and its
+// summary, answer for every tree. Rests on `layout`.
 
 use answers::Answer;
 use answers::NextFree;
@@ -67,7 +68,8 @@ impl Tree {
         }
     }
 
-    // The same words under another summary, sound or not: what comes from outside can be either.
+    // The same words under another summary, sound or not: what comes from outside can be
+    // either. Never refused.
     pub fn with_summary(self, summary: u16) -> Tree
         ensures { λ r. ⌜ WithSummarySays self summary r ⌝ }
     {
@@ -75,21 +77,24 @@ impl Tree {
         Tree { words, summary }
     }
 
-    // The words, of every tree.
+    // The words, of every tree. Never refused.
     pub fn words(self) -> [u64; 16]
         ensures { λ r. ⌜ WordsSays self r ⌝ }
     {
         self.words
     }
 
-    // The summary, of every tree.
+    // The summary, of every tree. Never refused.
     pub fn summary(self) -> u16
         ensures { λ r. ⌜ SummarySays self r ⌝ }
     {
         self.summary
     }
 
-    // Takes n slots at the lowest free start that is a multiple of 2^a.
+    // Takes n slots at the lowest free start that is a multiple of 2^a, and answers that start.
+    // Refused, the lowest number first: 1 where the tree is not sound, 2 where n is 0, 3 where
+    // a is 10 or more, 4 where n is above 1,024, 7 where no start fits. A refusal hands back
+    // the very map.
     pub fn take(self, n: usize, a: usize) -> Changed
         ensures { λ r. ⌜ TakeSays self n a r ⌝ }
     {
@@ -112,7 +117,9 @@ impl Tree {
         }
     }
 
-    // Claims the n slots from `start` on, each of which must be free.
+    // Claims the n slots from `start` on, each of which must be free. Refused: 1 where the tree
+    // is not sound, 2 where n is 0, 4 where the range does not end within 1,024 slots, 6 where
+    // a slot is used. A refusal hands back the very map.
     pub fn claim(self, start: usize, n: usize) -> Changed
         ensures { λ r. ⌜ ClaimSays self start n r ⌝ }
     {
@@ -125,7 +132,9 @@ impl Tree {
         }
     }
 
-    // Frees the n slots from `start` on, each of which must be used.
+    // Frees the n slots from `start` on, each of which must be used. Refused: 1 where the tree
+    // is not sound, 2 where n is 0, 4 where the range does not end within 1,024 slots, 5 where
+    // a slot is free already. A refusal hands back the very map.
     pub fn free(self, start: usize, n: usize) -> Changed
         ensures { λ r. ⌜ FreeSays self start n r ⌝ }
     {
@@ -138,7 +147,9 @@ impl Tree {
         }
     }
 
-    // Gives the n slots from `start` on the value `used`, whatever they held.
+    // Gives the n slots from `start` on the value `used`, whatever they held. Refused: 1 where
+    // the tree is not sound, 2 where n is 0, 4 where the range does not end within 1,024 slots.
+    // A refusal hands back the very map.
     pub fn set(self, start: usize, n: usize, used: bool) -> Changed
         ensures { λ r. ⌜ SetSays self start n used r ⌝ }
     {
@@ -151,7 +162,8 @@ impl Tree {
         }
     }
 
-    // The least free slot from `start` on.
+    // The least free slot from `start` on. Refused: 1 where the tree is not sound, 4 where
+    // `start` is 1,024 or more, 7 where no slot is free from there on.
     pub fn next_free(self, start: usize) -> NextFree
         ensures { λ r. ⌜ NextFreeSays self start r ⌝ }
     {
@@ -164,7 +176,8 @@ impl Tree {
         next_free_in(&self.words, start)
     }
 
-    // Whether the slot is used.
+    // Whether the slot is used. Refused: 1 where the tree is not sound, 4 where the slot is
+    // 1,024 or more.
     pub fn get(self, slot: usize) -> Truth
         ensures { λ r. ⌜ GetSays self slot r ⌝ }
     {
@@ -177,7 +190,8 @@ impl Tree {
         Truth::Is(sixteen::get(&self.words, slot))
     }
 
-    // Whether no slot is used: the summary alone tells it of a sound map.
+    // Whether no slot is used: the summary alone tells it of a sound map. Refused: 1 where the
+    // tree is not sound.
     pub fn empty(self) -> Truth
         ensures { λ r. ⌜ EmptySays self r ⌝ }
     {
@@ -187,7 +201,7 @@ impl Tree {
         Truth::Is(self.summary == 0)
     }
 
-    // How many slots are used.
+    // How many slots are used. Refused: 1 where the tree is not sound.
     pub fn used(self) -> Number
         ensures { λ r. ⌜ UsedSays self r ⌝ }
     {
@@ -197,7 +211,7 @@ impl Tree {
         Number::Is(sixteen::count(&self.words) as u64)
     }
 
-    // How many slots there are, on every tree.
+    // How many slots there are, on every tree. Never refused.
     pub fn capacity(self) -> usize
         ensures { λ r. ⌜ CapacitySays r ⌝ }
     {

@@ -17,7 +17,7 @@ use Rattle.bits.specs.Digits.{digit}
 use Rattle.one_word.specs.OneWord.{runMask, freeIn, usedIn, paintedIn, free-run, used-run, painted-run}
 use Rattle.slots.specs.Sets.{allFree, allUsed, painted}
 use Rattle.slots.specs.Calls.{Call, says, rangeChecks}
-use Rattle.slots.specs.Ways.{range-accepted}
+use Rattle.slots.proofs.Ways.{range-accepted}
 use Rattle.slots.specs.View.{sound-refused, sound-accepted}
 use Rattle.word.specs.declared.Word.{Word}
 use Rattle.word.specs.declared.Changed.{Changed}

@@ -54,7 +54,9 @@ impl Word {
         slots
     }
 
-    // Takes n slots at the lowest free start that is a multiple of 2^a.
+    // Takes n slots at the lowest free start that is a multiple of 2^a, and answers that start.
+    // Refused, the lowest number first: 2 where n is 0, 3 where a is 6 or more, 4 where n is
+    // above 64, 7 where no start fits. A refusal hands back the very map.
     pub fn take(self, n: usize, a: usize) -> Changed
         ensures { λ r. ⌜ TakeSays self n a r ⌝ }
     {
@@ -71,7 +73,9 @@ impl Word {
         }
     }
 
-    // Claims the n slots from `start` on, each of which must be free.
+    // Claims the n slots from `start` on, each of which must be free. Refused: 2 where n is 0,
+    // 4 where the range does not end within 64 slots, 6 where a slot is used. A refusal hands
+    // back the very map.
     pub fn claim(self, start: usize, n: usize) -> Changed
         ensures { λ r. ⌜ ClaimSays self start n r ⌝ }
     {
@@ -80,7 +84,9 @@ impl Word {
         carried_out(self.bits, judged, claimed, true)
     }
 
-    // Frees the n slots from `start` on, each of which must be used.
+    // Frees the n slots from `start` on, each of which must be used. Refused: 2 where n is 0, 4
+    // where the range does not end within 64 slots, 5 where a slot is free already. A refusal
+    // hands back the very map.
     pub fn free(self, start: usize, n: usize) -> Changed
         ensures { λ r. ⌜ FreeSays self start n r ⌝ }
     {
@@ -89,7 +95,9 @@ impl Word {
         carried_out(self.bits, judged, freed, false)
     }
 
-    // Gives the n slots from `start` on the value `used`, whatever they held.
+    // Gives the n slots from `start` on the value `used`, whatever they held. Refused: 2 where
+    // n is 0, 4 where the range does not end within 64 slots. A refusal hands back the very
+    // map.
     pub fn set(self, start: usize, n: usize, used: bool) -> Changed
         ensures { λ r. ⌜ SetSays self start n used r ⌝ }
     {
@@ -98,7 +106,8 @@ impl Word {
         carried_out(self.bits, judged, given, used)
     }
 
-    // The least free slot from `start` on.
+    // The least free slot from `start` on. Refused: 4 where `start` is 64 or more, 7 where no
+    // slot is free from there on.
     pub fn next_free(self, start: usize) -> NextFree
         ensures { λ r. ⌜ NextFreeSays self start r ⌝ }
     {
@@ -108,7 +117,7 @@ impl Word {
         next_free_in(self.bits, start)
     }
 
-    // Whether the slot is used.
+    // Whether the slot is used. Refused: 4 where the slot is 64 or more.
     pub fn get(self, slot: usize) -> Truth
         ensures { λ r. ⌜ GetSays self slot r ⌝ }
     {
@@ -118,21 +127,21 @@ impl Word {
         Truth::Is((self.bits >> slot) % 2 == 1)
     }
 
-    // Whether no slot is used.
+    // Whether no slot is used. Never refused.
     pub fn empty(self) -> bool
         ensures { λ r. ⌜ EmptySays self r ⌝ }
     {
         self.bits == 0
     }
 
-    // How many slots are used.
+    // How many slots are used. Never refused.
     pub fn used(self) -> usize
         ensures { λ r. ⌜ UsedSays self r ⌝ }
     {
         one_word::count(self.bits)
     }
 
-    // How many slots there are.
+    // How many slots there are. Never refused.
     pub fn capacity(self) -> usize
         ensures { λ r. ⌜ CapacitySays r ⌝ }
     {

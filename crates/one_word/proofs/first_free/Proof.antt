@@ -1,9 +1,8 @@
 -- `one_word::first_free` meets its contract: the trailing zeros of the complement are the first free place, at 64 places. Assumes nothing.
-use mathlib.Core.Path.{_≡_, _∙_}
-use Prim.Native.Nat.{ℕ, _*_, _%_, _^_, _≤_, _<_}
-use native.Mathlib.Nat.{one-mul, min-eq-left, min-eq-right, sub-eq-zero-of-le, le-of-lt}
+use mathlib.Core.Path.{_∙_}
+use Prim.Native.Nat.{_≤_, _<_}
+use native.Mathlib.Nat.{min-eq-left, min-eq-right, sub-eq-zero-of-le, le-of-lt}
 use native.Mathlib.Omega.{arith}
-use lib.Pow.{pow-pos, shl-exact}
 use borrow.Author.Needs.{needs}
 use Rattle.bits.specs.Range.{least}
 use Rattle.slots.specs.Tries.{freeFrom}
@@ -11,18 +10,15 @@ use Rattle.one_word.proofs.Places.{first-by-zeros}
 use Rattle.one_word.proofs.first_free.Statement.{statement}
 use Rattle.one_word.proofs.first_free.Tie as tie
 
-one-at : (from : ℕ) → from < 64 → 1 * 2 ^ from % 2 ^ 64 ≡ 2 ^ from
-one-at from h = shl-exact 1 from 64 (omega arith) (omega arith) ∙ one-mul (2 ^ from)
-
 returns : tie.Need-returns
 unfolding freeFrom least
 returns c = let past : 64 ≤ c .before .args .from = omega arith in rw (min-eq-right past, sub-eq-zero-of-le past)
 
+shr-zeros : tie.Need-shr-zeros
+shr-zeros c = search needs
+
 shl-zeros : tie.Need-shl-zeros
 shl-zeros c = search needs
-
-sub-zeros : tie.Need-sub-zeros
-sub-zeros c = rw (one-at (c .before .args .from) (c .if1 .left)) (pow-pos (c .before .args .from))
 
 zeros-requires : tie.Need-zeros-requires
 zeros-requires c κs = search needs
@@ -33,7 +29,7 @@ returns-2 c =
     let asked = c .before .before in
     let inside : asked .args .from < 64 = c .before .if1 .left in
     c .zeros .ensures
-    ∙ rw (one-at (asked .args .from) inside, min-eq-left (le-of-lt inside)) (first-by-zeros 64 (asked .args .word) (asked .args .from) (asked .fits .word .fits) inside)
+    ∙ rw (min-eq-left (le-of-lt inside)) (first-by-zeros 64 (asked .args .word) (asked .args .from) (asked .fits .word .fits) inside)
 
 pub first-free-spec : {M : Type 1} → statement M
-first-free-spec = tie.close (tie.spec returns shl-zeros sub-zeros zeros-requires returns-2)
+first-free-spec = tie.close (tie.spec returns shr-zeros shl-zeros zeros-requires returns-2)

@@ -4,7 +4,7 @@ use native.Mathlib.Omega.{arith}
 use borrow.Author.Needs.{needs}
 use Rattle.answers.specs.Said.{judged}
 use Rattle.answers.specs.Answers.{ok}
-use Rattle.slots.specs.Ways.{range-empty, range-starts-past, range-ends-past, range-inside}
+use Rattle.slots.proofs.Ways.{range-empty, range-starts-past, range-ends-past, range-inside}
 use Rattle.tree.specs.Layout.{treeOf}
 use Rattle.tree.proofs.Outcomes.{shown-unsound, shown-sound}
 use Rattle.tree.proofs.judged_range.Statement.{statement}

@@ -4,7 +4,7 @@ use native.Mathlib.Omega.{arith}
 use borrow.Author.Needs.{needs}
 use Rattle.answers.specs.Said.{onValue}
 use Rattle.answers.specs.Answers.{at}
-use Rattle.slots.specs.Ways.{take-empty, take-too-aligned, take-too-many}
+use Rattle.slots.proofs.Ways.{take-empty, take-too-aligned, take-too-many}
 use Rattle.slots.specs.Tries.{take-searched}
 use Rattle.slots.specs.View.{found-unsound, found-sound}
 use Rattle.tree.specs.Layout.{treeOf, treeView, slotOf}

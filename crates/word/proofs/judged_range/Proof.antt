@@ -2,7 +2,7 @@
 use mathlib.Core.Path.{sym}
 use native.Mathlib.Omega.{arith}
 use Rattle.answers.specs.Answers.{ok}
-use Rattle.slots.specs.Ways.{range-empty, range-starts-past, range-ends-past, range-inside}
+use Rattle.slots.proofs.Ways.{range-empty, range-starts-past, range-ends-past, range-inside}
 use Rattle.word.proofs.judged_range.Statement.{statement}
 use Rattle.word.proofs.judged_range.Tie as tie
 

@@ -5,7 +5,7 @@ use borrow.Author.Needs.{needs}
 use Rattle.answers.specs.Said.{onValue}
 use Rattle.answers.specs.Answers.{at}
 use Rattle.bits.specs.Digits.{digit}
-use Rattle.slots.specs.Ways.{take-empty, take-too-aligned, take-too-many}
+use Rattle.slots.proofs.Ways.{take-empty, take-too-aligned, take-too-many}
 use Rattle.slots.specs.Tries.{take-searched}
 use Rattle.word.proofs.judged_take.Statement.{statement}
 use Rattle.word.proofs.judged_take.Tie as tie

@@ -2,7 +2,7 @@
 use mathlib.Core.Path.{sym, ap, _∙_}
 use borrow.Author.Needs.{needs}
 use Rattle.answers.specs.Said.{value}
-use Rattle.slots.specs.Ways.{empty-says}
+use Rattle.slots.proofs.Ways.{empty-says}
 use Rattle.slots.specs.View.{found-unsound, found-sound}
 use Rattle.tree.specs.Layout.{treeView, slotOf}
 use Rattle.tree.proofs.Values.{is-tree}

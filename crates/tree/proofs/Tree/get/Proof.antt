@@ -3,7 +3,7 @@ use mathlib.Core.Path.{sym, ap, _∙_}
 use native.Mathlib.Omega.{arith}
 use borrow.Author.Needs.{needs}
 use Rattle.answers.specs.Said.{value}
-use Rattle.slots.specs.Ways.{get-past, get-inside}
+use Rattle.slots.proofs.Ways.{get-past, get-inside}
 use Rattle.slots.specs.View.{found-unsound, found-sound}
 use Rattle.tree.specs.Layout.{treeView, slotOf}
 use Rattle.tree.proofs.Outcomes.{shown-unsound, shown-sound}

@@ -3,7 +3,7 @@ use mathlib.Core.Path.{sym, _∙_}
 use native.Mathlib.Omega.{arith}
 use borrow.Author.Needs.{needs}
 use Rattle.slots.specs.Calls.{nextFreeCall}
-use Rattle.slots.specs.Ways.{next-free-past}
+use Rattle.slots.proofs.Ways.{next-free-past}
 use Rattle.slots.specs.Tries.{next-says}
 use Rattle.slots.specs.View.{found-unsound, found-sound}
 use Rattle.tree.specs.Layout.{treeView, slotOf}
