@@ -15,7 +15,7 @@ use borrow.Author.Tests.{lt-ltb, le-ltb, lt-leb, le-leb, eq-eqb, ne-eqb, ltb-tru
 use Rattle.bits.specs.Range.{bit, and-true, and-false, or-true, or-false, either, same-test, within, finds-every, every, least, least-is, least-none, least-from, least-passes, least-first, count, count-agree, count-most, count-split, count-moved}
 use Rattle.bits.specs.Digits.{digit, number, digit-number, number-is, number-agree, number-lt, zero-digit, and-digit, or-digit, up-digit, bit-digit, power-digit, complement-digit}
 use Rattle.slots.specs.Sets.{Slots, allFree, allUsed, finds-all-free, finds-all-used, finds-some-free}
-use Rattle.slots.specs.Tries.{freeFrom}
+use Rattle.slots.specs.Lowest.{freeFrom}
 use Rattle.one_word.specs.OneWord.{runMask, usedIn, paintedIn}
 use Rattle.layout.specs.Sixteen.{usedWord, withBit}
 use Rattle.layout.specs.Painting.{slotIn, slot-in-word, endIn, partMask, reaches, paintedFirst, paint-on, paint-ahead}

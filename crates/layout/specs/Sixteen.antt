@@ -10,7 +10,7 @@ use Rattle.bits.specs.Range.{either, count}
 use Rattle.bits.specs.Digits.{digit, number, number-agree, number-is, digit-number}
 use Rattle.layout.specs.Painting.{slotIn, endIn, reaches, paintedFirst, paintedWords, kept-word}
 use Rattle.slots.specs.Sets.{allFree, allUsed}
-use Rattle.slots.specs.Tries.{freeFrom}
+use Rattle.slots.specs.Lowest.{freeFrom}
 use Rattle.slots.specs.Layouts.{Summed, digitsView, noDigits, slotUnder, SoundUnder, marks, marked}
 
 -- ---- what is answered

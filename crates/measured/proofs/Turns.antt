@@ -7,24 +7,24 @@ use lib.ListN.{length, getD, drop, drop-of-length-le}
 use lib.Seq.{drop-cons}
 use Rattle.bits.specs.Range.{count}
 use Rattle.layout.specs.Painting.{slotIn}
-use Rattle.layout.specs.Sixteen.{summaryOf}
-use Rattle.slots.specs.Series.{Asked, free, made, lastOf}
+use Rattle.slots.specs.Plain.{Asked, free}
+use Rattle.slots.specs.Series.{made, lastOf}
 use Rattle.tree.specs.declared.Tree.{Tree}
 use Rattle.tree.specs.declared.Changed.{Changed}
-use Rattle.tree.specs.Layout.{treeOf, treeView}
+use Rattle.tree.specs.Layout.{holding, treeView, treeCalls}
 use Rattle.tree.specs.Contracts.{HoldingSays, TakeSays, FreeSays}
 use Rattle.measured.specs.Series.{takesOf, freesOf, wordsAfter, After}
 
 -- from a map, the rest of a series ends where the whole does
 pub record Ends (words : List ℕ) (calls : List Asked) (m : Tree) (rest : List Asked) : Type 0 where
-  pub alike : lastOf treeView (treeOf words (summaryOf words)) calls ≡ lastOf treeView m rest
+  pub alike : lastOf treeView treeCalls (holding words) calls ≡ lastOf treeView treeCalls m rest
 
 module _ {words : List ℕ} {calls : List Asked} where
   pub begins : (m : Tree) → HoldingSays words m → Ends words calls m calls
-  begins m is = record { alike = ap (λ (t : Tree). lastOf treeView t calls) (sym is) }
+  begins m is = record { alike = ap (λ (t : Tree). lastOf treeView treeCalls t calls) (sym is) }
 
-  turned : {m : Tree} {call : Asked} {rest : List Asked} (next : Tree) → Ends words calls m (call ∷ rest) → next ≡ made treeView m call .1 → Ends words calls next rest
-  turned {m} {call} {rest} next ends is = record { alike = ends .alike ∙ ap (λ (t : Tree). lastOf treeView t rest) (sym is) }
+  turned : {m : Tree} {call : Asked} {rest : List Asked} (next : Tree) → Ends words calls m (call ∷ rest) → next ≡ made treeView treeCalls m call .1 → Ends words calls next rest
+  turned {m} {call} {rest} next ends is = record { alike = ends .alike ∙ ap (λ (t : Tree). lastOf treeView treeCalls t rest) (sym is) }
 
   pub take-turn : {m : Tree} (n a left : ℕ) (out : Changed) → 0 < left → Ends words calls m (takesOf n a left) → TakeSays m n a out
       → Ends words calls (out .map) (takesOf n a (left - 1))
@@ -47,7 +47,7 @@ module _ {words : List ℕ} {calls : List Asked} where
 
   pub none-to-free : {m : Tree} (starts : List ℕ) (n i : ℕ) → length starts ≤ i → Ends words calls m (freesOf (drop i starts) n) → Ends words calls m []
   none-to-free {m} starts n i over ends = record {
-    alike = ends .alike ∙ ap (λ (l : List ℕ). lastOf treeView m (freesOf l n)) (drop-of-length-le starts {i = i} over);
+    alike = ends .alike ∙ ap (λ (l : List ℕ). lastOf treeView treeCalls m (freesOf l n)) (drop-of-length-le starts {i = i} over);
   }
 
   pub finished : {m : Tree} (after : List ℕ) (r : ℕ) → Ends words calls m [] → after ≡ m .words → r ≡ count (slotIn after) 0 1024 → After words calls r after

@@ -5,9 +5,9 @@ use mathlib.Core.List.{List, [], _∷_, map}
 use Prim.Native.Nat.{ℕ, zero, suc}
 use Rattle.bits.specs.Range.{count}
 use Rattle.layout.specs.Painting.{slotIn}
-use Rattle.layout.specs.Sixteen.{summaryOf}
-use Rattle.slots.specs.Series.{Asked, take, free, lastOf}
-use Rattle.tree.specs.Layout.{treeOf, treeView}
+use Rattle.slots.specs.Plain.{Asked, take, free}
+use Rattle.slots.specs.Series.{lastOf}
+use Rattle.tree.specs.Layout.{holding, treeView, treeCalls}
 
 abbrev pub takesOf : ℕ → ℕ → ℕ → List Asked
 takesOf n a zero = []
@@ -18,7 +18,7 @@ freesOf starts n = map (λ s. free s n) starts
 
 -- the words that a series leaves, and how many slots they hold
 abbrev pub wordsAfter : List ℕ → List Asked → List ℕ
-wordsAfter words calls = lastOf treeView (treeOf words (summaryOf words)) calls .words
+wordsAfter words calls = lastOf treeView treeCalls (holding words) calls .words
 
 abbrev pub After : List ℕ → List Asked → ℕ → List ℕ → Type 0
 After words calls r after = _≡_ {A = ℕ × List ℕ} (r, after) (count (slotIn (wordsAfter words calls)) 0 1024, wordsAfter words calls)

@@ -6,7 +6,7 @@ use native.Mathlib.Omega.{arith}
 use Rattle.bits.specs.Range.{within, every, count, every-agree, every-within}
 use Rattle.bits.specs.Digits.{digit, number, digit-number, number-agree}
 use Rattle.slots.specs.Sets.{allFree, allUsed, painted}
-use Rattle.slots.specs.Tries.{freeFrom}
+use Rattle.slots.specs.Lowest.{freeFrom}
 
 -- ---- what is answered
 

@@ -16,9 +16,10 @@ use Rattle.answers.specs.declared.Number.{Number}
 use Rattle.bits.specs.Range.{either}
 use Rattle.slots.specs.Sets.{none}
 use Rattle.slots.specs.Calls.{usedCall}
-use Rattle.slots.specs.Series.{Asked, made, answersOf, lastOf, recordOf, beforeOf, Back}
+use Rattle.slots.specs.Plain.{Asked}
+use Rattle.slots.specs.Series.{made, answersOf, lastOf, recordOf, beforeOf, Back}
 use Rattle.tree.specs.declared.Tree.{Tree}
-use Rattle.tree.specs.Layout.{treeView, slotOf}
+use Rattle.tree.specs.Layout.{treeView, slotOf, treeCalls}
 use Rattle.tree.specs.Demands.{walked-back}
 use Rattle.report.specs.Fields.{Field, call, skip, bad, cut, fields}
 use Rattle.report.specs.Report.{Line, said, skipped, stopped, short, used, carried, linesOf, emptyTree, reportOf, over, ran, RunSays, outputOf, output-big, output-report, OutputSays}
@@ -101,18 +102,18 @@ abbrev pub lastIn : Line → List Line → Line
 lastIn line [] = line
 lastIn line (next ∷ rest) = lastIn next rest
 
-pub left-last : (t : Tree) (fs : List Field) → leftBy t fs ≡ lastOf treeView t (callsOf fs)
+pub left-last : (t : Tree) (fs : List Field) → leftBy t fs ≡ lastOf treeView treeCalls t (callsOf fs)
 left-last t [] = refl
-left-last t (call asked ∷ rest) = left-last (made treeView t asked .1) rest
+left-last t (call asked ∷ rest) = left-last (made treeView treeCalls t asked .1) rest
 left-last t (skip ∷ rest) = left-last t rest
 left-last t (bad ∷ rest) = left-last t rest
 left-last t (cut ∷ rest) = left-last t rest
 
 -- each call's line is its own answer, on the map that the one before left
-pub lines-answer : (t : Tree) (fs : List Field) → saidIn (linesOf t fs) ≡ answersOf treeView t (callsOf fs)
+pub lines-answer : (t : Tree) (fs : List Field) → saidIn (linesOf t fs) ≡ answersOf treeView treeCalls t (callsOf fs)
 unfolding linesOf
 lines-answer t [] = refl
-lines-answer t (call asked ∷ rest) = ap (λ (more : List (Said Reply)). made treeView t asked .0 ∷ more) (lines-answer (made treeView t asked .1) rest)
+lines-answer t (call asked ∷ rest) = ap (λ (more : List (Said Reply)). made treeView treeCalls t asked .0 ∷ more) (lines-answer (made treeView treeCalls t asked .1) rest)
 lines-answer t (skip ∷ rest) = lines-answer t rest
 lines-answer t (bad ∷ rest) = lines-answer t rest
 lines-answer t (cut ∷ rest) = lines-answer t rest
@@ -132,7 +133,7 @@ module _ (bytes : List ℕ) where
   abbrev pub left : Tree
   left = leftBy emptyTree (fields bytes)
 
-  pub run-answers : saidIn (linesOf emptyTree (fields bytes)) ≡ answersOf treeView emptyTree asked
+  pub run-answers : saidIn (linesOf emptyTree (fields bytes)) ≡ answersOf treeView treeCalls emptyTree asked
   run-answers = lines-answer emptyTree (fields bytes)
 
   pub run-counts : (line : Line) → lastIn line (linesOf emptyTree (fields bytes)) ≡ used (usedCall 10 (slotOf left) .answer)
@@ -140,8 +141,8 @@ module _ (bytes : List ℕ) where
 
   -- walked backward from the tree that the run leaves, the record of its accepted calls is accepted step by step, meets the maps that stood before
   -- each of them, and comes to the empty tree
-  pub run-walked-back : Back treeView left (recordOf treeView emptyTree asked) (beforeOf treeView emptyTree asked) emptyTree
+  pub run-walked-back : Back treeView treeCalls left (recordOf treeView treeCalls emptyTree asked) (beforeOf treeView treeCalls emptyTree asked) emptyTree
   run-walked-back =
-      subst (λ (last : Tree). Back treeView last (recordOf treeView emptyTree asked) (beforeOf treeView emptyTree asked) emptyTree)
+      subst (λ (last : Tree). Back treeView treeCalls last (recordOf treeView treeCalls emptyTree asked) (beforeOf treeView treeCalls emptyTree asked) emptyTree)
       (sym (left-last emptyTree (fields bytes)))
-      (walked-back emptyTree (treeView .made-sound none) (treeView .made-map none) asked)
+      (walked-back emptyTree (treeView .made-sound none tt) (treeView .made-map none) asked)

@@ -11,7 +11,7 @@ use lib.Seq.{drop-cons}
 use borrow.Author.Tests.{lt-ltb, le-ltb, le-leb, lt-leb, ne-eqb, ltb-true, ltb-false}
 use Rattle.bits.specs.Range.{either}
 use Rattle.bits.specs.Bytes.{fromBytes}
-use Rattle.slots.specs.Series.{Asked, take as askTake, claim as askClaim, free as askFree}
+use Rattle.slots.specs.Plain.{Asked, take as askTake, claim as askClaim, free as askFree}
 
 -- ---- the header
 

@@ -17,9 +17,10 @@ use Rattle.slots.specs.Sets.{none}
 use Rattle.slots.specs.Calls.{takeCall, claimCall, freeCall, usedCall}
 use Rattle.slots.specs.Promises.{take-promise}
 use Rattle.slots.specs.View.{answered, changed-says, found-sound, found-unsound, sound-answers}
-use Rattle.slots.specs.Series.{Asked, take as askTake, claim as askClaim, free as askFree, callOf, made}
+use Rattle.slots.specs.Plain.{Asked, take as askTake, claim as askClaim, free as askFree, callOf}
+use Rattle.slots.specs.Series.{made}
 use Rattle.tree.specs.declared.Tree.{Tree}
-use Rattle.tree.specs.Layout.{treeView, slotOf}
+use Rattle.tree.specs.Layout.{treeView, slotOf, treeCalls}
 use Rattle.report.specs.Fields.{Kind, takes, claims, frees, skips, stops, mayHold, fieldOf, Field, call, skip, bad, cut, headKind, headLength, afterHead, firstField, header-cut, header-bad, body-cut, body-whole, first-shorter}
 use Rattle.report.specs.Report.{said, used, decimalWithin, decimal, decimal-digit, decimal-tens, written, carried, reportFrom, report-end, report-first, report-reads, emptyTree, reportOf}
 
@@ -103,7 +104,7 @@ small-line k (value (at o)) small = let digits = decimal-short k (suc o) o small
 small-line k (value ok) small = omega arith
 small-line k (refused r) small = let digits = decimal-short 0 (suc r) r small in simp length-append (omega (arith, digits))
 
-call-line : (k : ℕ) (t : Tree) → StartsBelow (10 ^ suc k) t → (asked : Asked) → length (written (said (made treeView t asked .0))) ≤ 5 + k
+call-line : (k : ℕ) (t : Tree) → StartsBelow (10 ^ suc k) t → (asked : Asked) → length (written (said (made treeView treeCalls t asked .0))) ≤ 5 + k
 call-line k t starts asked =
     rw (changed-says treeView t (callOf 10 (slotOf t) asked)) (small-line k (answered treeView t (callOf 10 (slotOf t) asked)) (said-small (10 ^ suc k) t starts asked))
 
@@ -128,7 +129,7 @@ any-count t =
 -- the empty tree grants the start 0, and holds none
 first-starts : StartsBelow (10 ^ 1) emptyTree
 first-starts n a o e =
-    let granted = take-promise 10 (slotOf emptyTree) n a o .0 (sym (sound-answers treeView emptyTree _ (treeView .made-sound none)) ∙ e) in
+    let granted = take-promise 10 (slotOf emptyTree) n a o .0 (sym (sound-answers treeView emptyTree _ (treeView .made-sound none tt)) ∙ e) in
     let inside : n ≤ 1024 = granted .2 in
     let from-zero : o ≤ 0 = granted .3 .lowest-start 0 (record {
       aligned = (0, sym (zero-mul (2 ^ a)));
@@ -154,7 +155,7 @@ Within c t bytes = (threes : ℕ) → length bytes < 3 * suc threes → length (
 -- a stop and the count fit into c, and so does a call's line, after which any report has 14
 record Short (c : ℕ) (t : Tree) : Type 0 where
   ends : length (written (used (usedCall 10 (slotOf t) .answer))) + 4 ≤ c
-  calls : (asked : Asked) → length (written (said (made treeView t asked .0))) + 4 ≤ c
+  calls : (asked : Asked) → length (written (said (made treeView treeCalls t asked .0))) + 4 ≤ c
 
 module _ (c : ℕ) (t : Tree) (brief : Short c t) where
   none-within : Within c t []
@@ -164,7 +165,7 @@ module _ (c : ℕ) (t : Tree) (brief : Short c t) where
       → length (written (carried t field .0)) + length (reportFrom (carried t field .1) rest) ≤ 5 * threes + c
   field-within n threes (call asked) rest few taken any same =
       let line = brief .calls asked in
-      let more = any (made treeView t asked .1) (threes - 2) (omega (arith, few, taken)) in
+      let more = any (made treeView treeCalls t asked .1) (threes - 2) (omega (arith, few, taken)) in
       omega (arith, line, more, few, taken)
   field-within n threes skip rest few taken any same =
       let more = same (threes - 1) (omega (arith, few, taken)) in omega (arith, more, few, taken)

@@ -16,7 +16,7 @@ use Rattle.slots.specs.Sets.{none}
 use Rattle.slots.specs.Calls.{usedCall}
 use Rattle.slots.specs.Series.{made}
 use Rattle.tree.specs.declared.Tree.{Tree}
-use Rattle.tree.specs.Layout.{treeView, slotOf, ofSlots}
+use Rattle.tree.specs.Layout.{treeView, slotOf, ofSlots, treeCalls}
 use Rattle.report.specs.Fields.{Field, call, skip, bad, cut, firstField, fields, fields-none, fields-first}
 
 -- ---- lines
@@ -164,7 +164,7 @@ written (used n) = numbered usedWord n
 
 -- the line of one field, and the map that it leaves
 abbrev pub carried : Tree → Field → Line × Tree
-carried t (call asked) = let out = made treeView t asked in (said (out .0), out .1)
+carried t (call asked) = let out = made treeView treeCalls t asked in (said (out .0), out .1)
 carried t skip = (skipped, t)
 carried t bad = (stopped, t)
 carried t cut = (short, t)

@@ -13,7 +13,7 @@ use Rattle.answers.specs.declared.Number.the-variants.{Is, Refused}
 use Rattle.slots.specs.Sets.{none}
 use Rattle.slots.specs.Calls.{says, usedCall}
 use Rattle.slots.specs.View.{changed-sound, sound-answers}
-use Rattle.slots.specs.Series.{callOf}
+use Rattle.slots.specs.Plain.{callOf}
 use Rattle.tree.specs.declared.Tree.{Tree}
 use Rattle.tree.specs.Layout.{treeView, slotOf, ofSlots, Sound}
 use Rattle.tree.specs.Contracts.{UsedSays}
@@ -38,7 +38,7 @@ pub record Running (bytes before : List ℕ) (map : Tree) (next end : ℕ) (repo
 
 -- every field leaves a sound tree sound
 carried-sound : (t : Tree) (field : Field) → Sound t → Sound (carried t field .1)
-carried-sound t (call asked) sound = changed-sound treeView t (callOf 10 (slotOf t) asked) sound
+carried-sound t (call asked) sound = changed-sound treeView t (callOf 10 (slotOf t) asked) sound (λ a said. tt)
 carried-sound t skip sound = sound
 carried-sound t bad sound = sound
 carried-sound t cut sound = sound
@@ -53,7 +53,7 @@ starts bytes before t is limit room = record {
   held = refl;
   left = ap (λ (map : Tree). reportFrom map bytes) (sym is);
   inside = omega arith;
-  sound = rw is (treeView .made-sound none);
+  sound = rw is (treeView .made-sound none tt);
   limit = limit;
   room = room;
 }

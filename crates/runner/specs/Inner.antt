@@ -8,7 +8,7 @@ use lib.ListN.{length, take, drop, length-append, length-drop}
 use lib.Seq.{length-take-le, take-at, drop-at, drop-drop, take-append-seam, drop-append-add}
 use Rattle.answers.specs.Answers.{answerSays}
 use Rattle.answers.specs.declared.Answer.{Answer}
-use Rattle.slots.specs.Series.{take as askTake, claim as askClaim, free as askFree}
+use Rattle.slots.specs.Plain.{take as askTake, claim as askClaim, free as askFree}
 use Rattle.tree.specs.declared.Tree.{Tree}
 use Rattle.runner.specs.declared.Step.{Step}
 use Rattle.runner.specs.declared.fields.Kind.{Kind as CodeKind}

@@ -6,22 +6,23 @@ use Prim.Native.Nat.{ℕ, _-_, _^_}
 use lib.Dec.{leb, ltb, eqb}
 use Rattle.answers.specs.Said.{Said, Check, _when_, judged, leaving}
 use Rattle.answers.specs.Answers.{Reply, at, ok}
-use Rattle.bits.specs.Range.{least, count}
+use Rattle.bits.specs.Range.{count}
 use Rattle.slots.specs.Sets.{Slots, allFree, allUsed, painted}
-use Rattle.slots.specs.Lowest.{lowest}
+use Rattle.slots.specs.Lowest.{lowest, freeFrom}
 
-pub record Call (A : Type 0) : Type 0 where
+-- a call on a state of the type X
+pub record Call (X A : Type 0) : Type 0 where
   pub checks : List Check
   pub answer : A
-  pub after : Slots
+  pub after : X
 
 -- what is said of it: the first fault's number, or the answer
-unfoldable pub says : {A : Type 0} → Call A → Said A
+unfoldable pub says : {X A : Type 0} → Call X A → Said A
 says c = judged (c .checks) (c .answer)
 
--- the set that it leaves: on a refusal the very set
-unfoldable pub leaves : {A : Type 0} → Slots → Call A → Slots
-leaves S c = leaving (says c) (λ _. c .after) S .1
+-- the state that it leaves: on a refusal the very state
+unfoldable pub leaves : {X A : Type 0} → X → Call X A → X
+leaves x c = leaving (says c) (λ _. c .after) x .1
 
 -- the n slots from s on do not end within the capacity; no sum is made that could wrap
 abbrev pub past : ℕ → ℕ → ℕ → Bool
@@ -34,7 +35,7 @@ rangeChecks k s n = (2 when eqb n 0) ∷ (4 when past k s n) ∷ []
 -- ---- the calls that change the map
 
 -- take n slots at the lowest free start that is a multiple of 2 ^ a. The search waits until the checks before 7 have passed
-unfoldable pub takeCall : ℕ → Slots → ℕ → ℕ → Call Reply
+unfoldable pub takeCall : ℕ → Slots → ℕ → ℕ → Call Slots Reply
 takeCall k S n a =
     let start = lowest k S n a in
     let full = leb (2 ^ k) start in
@@ -46,7 +47,7 @@ takeCall k S n a =
     }
 
 -- claim the n slots from s on, all of them free
-unfoldable pub claimCall : ℕ → Slots → ℕ → ℕ → Call Reply
+unfoldable pub claimCall : ℕ → Slots → ℕ → ℕ → Call Slots Reply
 claimCall k S s n =
     let used = not (allFree S s n) in
     record {
@@ -56,7 +57,7 @@ claimCall k S s n =
     }
 
 -- free the n slots from s on, all of them used
-unfoldable pub freeCall : ℕ → Slots → ℕ → ℕ → Call Reply
+unfoldable pub freeCall : ℕ → Slots → ℕ → ℕ → Call Slots Reply
 freeCall k S s n =
     let free = not (allUsed S s n) in
     record {
@@ -66,7 +67,7 @@ freeCall k S s n =
     }
 
 -- give the n slots from s on the value v, whatever they held
-unfoldable pub setCall : ℕ → Slots → ℕ → ℕ → Bool → Call Reply
+unfoldable pub setCall : ℕ → Slots → ℕ → ℕ → Bool → Call Slots Reply
 setCall k S s n v = record {
   checks = rangeChecks k s n;
   answer = ok;
@@ -76,22 +77,22 @@ setCall k S s n v = record {
 -- ---- the calls that only ask
 
 -- the least free slot from s on
-unfoldable pub nextFreeCall : ℕ → Slots → ℕ → Call ℕ
+unfoldable pub nextFreeCall : ℕ → Slots → ℕ → Call Slots ℕ
 nextFreeCall k S s =
-    let slot = least (λ i. not (S i)) s (2 ^ k - s) in
+    let slot = freeFrom k S s in
     let full = leb (2 ^ k) slot in
     record { checks = (4 when leb (2 ^ k) s) ∷ (7 when full) ∷ []; answer = slot; after = S }
 
 -- whether slot i is used
-unfoldable pub getCall : ℕ → Slots → ℕ → Call Bool
+unfoldable pub getCall : ℕ → Slots → ℕ → Call Slots Bool
 getCall k S i = record { checks = (4 when leb (2 ^ k) i) ∷ []; answer = S i; after = S }
 
 -- whether no slot is used
-unfoldable pub emptyCall : ℕ → Slots → Call Bool
+unfoldable pub emptyCall : ℕ → Slots → Call Slots Bool
 emptyCall k S = record { checks = []; answer = allFree S 0 (2 ^ k); after = S }
 
 -- how many slots are used
-unfoldable pub usedCall : ℕ → Slots → Call ℕ
+unfoldable pub usedCall : ℕ → Slots → Call Slots ℕ
 usedCall k S = record { checks = []; answer = count S 0 (2 ^ k); after = S }
 
 unfoldable pub capacity : ℕ → ℕ

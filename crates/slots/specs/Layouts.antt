@@ -15,63 +15,67 @@ use Rattle.answers.specs.Faults.{finds-both, finds-eq}
 use Rattle.bits.specs.Range.{every, finds-every, same-test}
 use Rattle.bits.specs.Digits.{digit, number, digit-number, number-lt, number-digit, number-is, past-digit, zero-digit, equal-digits}
 use Rattle.slots.specs.Sets.{Slots, none, allFree, finds-all-free}
+use Rattle.slots.specs.Kinds.{plain}
 use Rattle.slots.specs.View.{View, made-alike}
 
 -- ---- the digits of one number
 
-abbrev pub digitsView : ℕ → View
+abbrev pub digitsView : ℕ → View plain
 digitsView k = record {
   k = k;
   Map = ℕ;
-  slotOf = digit;
-  ofSlots = λ S. number S (2 ^ k);
+  stateOf = digit;
+  ofState = λ S. number S (2 ^ k);
   Sound = λ m. Unit {0};
   isSound = λ m. true;
   IsMap = λ m. m < 2 ^ (2 ^ k);
   finds-sound = λ m. (λ t. tt, λ t. tt);
   holds = λ S s h. digit-number S (2 ^ k) s h;
   past = λ m held s h. past-digit m (2 ^ k) s held h;
-  made-sound = λ S. tt;
+  right = λ m sound held. tt;
+  made-sound = λ S right. tt;
   made-map = λ S. number-lt S (2 ^ k);
   same = λ m sound held. number-digit m (2 ^ k) held;
 }
 
 -- ---- the same maps in other words
 
-abbrev pub carried : (L : View) (M : Type 0) (to : M → L .Map) (from : L .Map → M)
-    → ((x : L .Map) → to (from x) ≡ x) → ((m : M) → from (to m) ≡ m) → View
+abbrev pub carried : (L : View plain) (M : Type 0) (to : M → L .Map) (from : L .Map → M)
+    → ((x : L .Map) → to (from x) ≡ x) → ((m : M) → from (to m) ≡ m) → View plain
 carried L M to from there back = record {
   k = L .k;
   Map = M;
-  slotOf = λ m. L .slotOf (to m);
-  ofSlots = λ S. from (L .ofSlots S);
+  stateOf = λ m. L .stateOf (to m);
+  ofState = λ S. from (L .ofState S);
   Sound = λ m. L .Sound (to m);
   isSound = λ m. L .isSound (to m);
   IsMap = λ m. L .IsMap (to m);
   finds-sound = λ m. L .finds-sound (to m);
-  holds = λ S s h. rw (there (L .ofSlots S)) (L .holds S s h);
+  holds = λ S s h. rw (there (L .ofState S)) (L .holds S s h);
   past = λ m held s h. L .past (to m) held s h;
-  made-sound = λ S. rw (there (L .ofSlots S)) (L .made-sound S);
-  made-map = λ S. rw (there (L .ofSlots S)) (L .made-map S);
+  right = λ m sound held. tt;
+  made-sound = λ S right. rw (there (L .ofState S)) (L .made-sound S right);
+  made-map = λ S. rw (there (L .ofState S)) (L .made-map S);
   same = λ m sound held. ap from (L .same (to m) sound held) ∙ back m;
 }
 
 -- the same maps, with the slots that they hold said in other words
-abbrev pub seenAs : (L : View) (slots : L .Map → Slots) → ((m : L .Map) → L .slotOf m ≡ slots m) → View
+abbrev pub seenAs : (L : View plain) (slots : L .Map → Slots) → ((m : L .Map) → L .stateOf m ≡ slots m) → View plain
 seenAs L slots seen = record {
   k = L .k;
   Map = L .Map;
-  slotOf = slots;
-  ofSlots = L .ofSlots;
+  stateOf = slots;
+  ofState = L .ofState;
   Sound = L .Sound;
   isSound = L .isSound;
   IsMap = L .IsMap;
   finds-sound = L .finds-sound;
-  holds = λ S s h. ap (λ T. T s) (sym (seen (L .ofSlots S))) ∙ L .holds S s h;
+  holds = λ S s h. ap (λ T. T s) (sym (seen (L .ofState S))) ∙ L .holds S s h;
   past = λ m held s h. ap (λ T. T s) (sym (seen m)) ∙ L .past m held s h;
+  right = λ m sound held. tt;
   made-sound = L .made-sound;
   made-map = L .made-map;
-  same = λ m sound held. ap (L .ofSlots) (sym (seen m)) ∙ L .same m sound held;
+  same = λ m sound held. ap (L .ofState) (sym (seen m)) ∙ L .same m sound held;
 }
 
 -- ---- many maps under a summary
@@ -93,18 +97,18 @@ listed-at f s (suc n) zero d h = ap f (sym (add-zero s))
 listed-at f s (suc n) (suc i) d h = listed-at f (suc s) n i d (omega arith) ∙ ap f (suc-add s i ∙ sym (add-suc s i))
 
 -- which maps of a view hold no slot, and the test that finds it
-pub record Vacancy (L : View) : Type 1 where
+pub record Vacancy (L : View plain) : Type 1 where
   pub Vacant : L .Map → Type 0
   pub vacant : L .Map → Bool
   pub finds-vacant : (m : L .Map) → T (vacant m) ↔ Vacant m
-  pub none-held : (m : L .Map) → L .Sound m → L .IsMap m → Vacant m ↔ ((s : ℕ) → s < 2 ^ L .k → L .slotOf m s ≡ false)
+  pub none-held : (m : L .Map) → L .Sound m → L .IsMap m → Vacant m ↔ ((s : ℕ) → s < 2 ^ L .k → L .stateOf m s ≡ false)
 
 -- so the test tells whether no slot is used
-pub vacant-is-free : (L : View) (none-in : Vacancy L) (m : L .Map) → L .Sound m → L .IsMap m → none-in .vacant m ≡ allFree (L .slotOf m) 0 (2 ^ L .k)
+pub vacant-is-free : (L : View plain) (none-in : Vacancy L) (m : L .Map) → L .Sound m → L .IsMap m → none-in .vacant m ≡ allFree (L .stateOf m) 0 (2 ^ L .k)
 vacant-is-free L none-in m sound held =
-    let found = finds-all-free (L .slotOf m) 0 (2 ^ L .k) in
+    let found = finds-all-free (L .stateOf m) 0 (2 ^ L .k) in
     let holds-none = none-in .none-held m sound held in
-    same-test (none-in .vacant m) (allFree (L .slotOf m) 0 (2 ^ L .k))
+    same-test (none-in .vacant m) (allFree (L .stateOf m) 0 (2 ^ L .k))
     (λ t. found .1 (λ i h. holds-none .0 (none-in .finds-vacant m .0 t) i (omega (arith, h .1))))
     (λ t. none-in .finds-vacant m .1 (holds-none .1 (λ i l. found .0 t i (zero-le, omega arith))))
 
@@ -148,17 +152,17 @@ module _ (P : Type 0) where
   telling false true found h = refl
   telling false false found h = h .1 (λ p. found .1 p)
 
-module _ (L : View) (none-in : Vacancy L) (j : ℕ) where
+module _ (L : View plain) (none-in : Vacancy L) (j : ℕ) where
   -- part i; past the last part, a map with no slot
   abbrev pub part : Summed (L .Map) → ℕ → L .Map
-  part m i = getD (m .parts) i (L .ofSlots none)
+  part m i = getD (m .parts) i (L .ofState none)
 
   abbrev pub slotUnder : Summed (L .Map) → Slots
-  slotUnder m s = ltb s (2 ^ (j + L .k)) && L .slotOf (part m (s / 2 ^ L .k)) (s % 2 ^ L .k)
+  slotUnder m s = ltb s (2 ^ (j + L .k)) && L .stateOf (part m (s / 2 ^ L .k)) (s % 2 ^ L .k)
 
   -- part i of a set
   abbrev pub partOf : Slots → ℕ → L .Map
-  partOf S i = L .ofSlots (λ s. S (i * 2 ^ L .k + s))
+  partOf S i = L .ofState (λ s. S (i * 2 ^ L .k + s))
 
   abbrev pub madeUnder : Slots → Summed (L .Map)
   madeUnder S = record { parts = listed (partOf S) 0 (2 ^ j); summary = number (λ i. not (none-in .vacant (partOf S i))) (2 ^ j) }
@@ -207,7 +211,7 @@ module _ (L : View) (none-in : Vacancy L) (j : ℕ) where
       )
 
   made-part : (S : Slots) (i : ℕ) → i < 2 ^ j → part (madeUnder S) i ≡ partOf S i
-  made-part S i l = listed-at (partOf S) 0 (2 ^ j) i (L .ofSlots none) l ∙ ap (partOf S) (zero-add i)
+  made-part S i l = listed-at (partOf S) 0 (2 ^ j) i (L .ofState none) l ∙ ap (partOf S) (zero-add i)
 
   whole : 0 < 2 ^ L .k
   whole = pow-pos (L .k)
@@ -225,7 +229,7 @@ module _ (L : View) (none-in : Vacancy L) (j : ℕ) where
   pub holds-under : (S : Slots) (s : ℕ) → s < 2 ^ (j + L .k) → slotUnder (madeUnder S) s ≡ S s
   holds-under S s l =
       rw (lt-ltb s (2 ^ (j + L .k)) l) (
-      ap (λ (p : L .Map). L .slotOf p (s % 2 ^ L .k)) (made-part S (s / 2 ^ L .k) (in-part s l))
+      ap (λ (p : L .Map). L .stateOf p (s % 2 ^ L .k)) (made-part S (s / 2 ^ L .k) (in-part s l))
       ∙ L .holds _ (s % 2 ^ L .k) (mod-lt s whole) ∙ ap S (put-back s))
 
   pub past-under : (m : Summed (L .Map)) → MapUnder m → (s : ℕ) → 2 ^ (j + L .k) ≤ s → slotUnder m s ≡ false
@@ -233,7 +237,7 @@ module _ (L : View) (none-in : Vacancy L) (j : ℕ) where
 
   pub made-sound-under : (S : Slots) → SoundUnder (madeUnder S)
   made-sound-under S = record {
-    parts-sound = λ i l. rw (made-part S i l) (L .made-sound _);
+    parts-sound = λ i l. rw (made-part S i l) (L .made-sound _ tt);
     summary-right = λ i l. rw (made-part S i l) (marks (partOf S i) _ (digit-number (λ p. not (none-in .vacant (partOf S p))) (2 ^ j) i l));
   }
 
@@ -245,19 +249,19 @@ module _ (L : View) (none-in : Vacancy L) (j : ℕ) where
   }
 
   module _ (m : Summed (L .Map)) (sound : SoundUnder m) (held : MapUnder m) where
-    slot-in : (i s : ℕ) → i < 2 ^ j → s < 2 ^ L .k → slotUnder m (i * 2 ^ L .k + s) ≡ L .slotOf (part m i) s
+    slot-in : (i s : ℕ) → i < 2 ^ j → s < 2 ^ L .k → slotUnder m (i * 2 ^ L .k + s) ≡ L .stateOf (part m i) s
     slot-in i s h l =
         rw (lt-ltb (i * 2 ^ L .k + s) (2 ^ (j + L .k)) (inside i s h l)) (
-        ap (λ (p : ℕ). L .slotOf (part m p) ((i * 2 ^ L .k + s) % 2 ^ L .k)) (mul-add-div-right whole i s ∙ ap (λ (r : ℕ). i + r) (div-eq-of-lt l) ∙ add-zero i)
-        ∙ ap (L .slotOf (part m i)) (mul-add-mod-self-right i (2 ^ L .k) s ∙ mod-eq-of-lt l))
+        ap (λ (p : ℕ). L .stateOf (part m p) ((i * 2 ^ L .k + s) % 2 ^ L .k)) (mul-add-div-right whole i s ∙ ap (λ (r : ℕ). i + r) (div-eq-of-lt l) ∙ add-zero i)
+        ∙ ap (L .stateOf (part m i)) (mul-add-mod-self-right i (2 ^ L .k) s ∙ mod-eq-of-lt l))
 
     same-part : (i : ℕ) → i < 2 ^ j → partOf (slotUnder m) i ≡ part m i
-    same-part i l = made-alike L _ (L .slotOf (part m i)) (λ s b. slot-in i s l b) ∙ L .same (part m i) (sound .parts-sound i l) (held .parts-maps i l)
+    same-part i l = made-alike L _ (L .stateOf (part m i)) tt tt (λ s b. slot-in i s l b) ∙ L .same (part m i) (sound .parts-sound i l) (held .parts-maps i l)
 
     same-parts : listed (partOf (slotUnder m)) 0 (2 ^ j) ≡ m .parts
     same-parts =
         let many = length-listed (partOf (slotUnder m)) 0 (2 ^ j) in
-        ext-getD (L .ofSlots none) _ _ (many ∙ sym (held .count-right))
+        ext-getD (L .ofState none) _ _ (many ∙ sym (held .count-right))
         (λ i l. let b : i < 2 ^ j = rw (sym many) l in made-part (slotUnder m) i b ∙ same-part i b)
 
     same-summary : number (λ i. not (none-in .vacant (partOf (slotUnder m) i))) (2 ^ j) ≡ m .summary
@@ -293,19 +297,20 @@ module _ (L : View) (none-in : Vacancy L) (j : ℕ) where
           ∙ sym (zero-digit i)),
     )
 
-  abbrev pub underSummary : View
+  abbrev pub underSummary : View plain
   underSummary = record {
     k = j + L .k;
     Map = Summed (L .Map);
-    slotOf = slotUnder;
-    ofSlots = madeUnder;
+    stateOf = slotUnder;
+    ofState = madeUnder;
     Sound = SoundUnder;
     isSound = soundUnder;
     IsMap = MapUnder;
     finds-sound = finds-sound-under;
     holds = holds-under;
     past = past-under;
-    made-sound = made-sound-under;
+    right = λ m sound held. tt;
+    made-sound = λ S right. made-sound-under S;
     made-map = made-map-under;
     same = same-under;
   }

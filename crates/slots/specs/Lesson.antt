@@ -16,11 +16,13 @@ use Rattle.slots.specs.Calls.{takeCall, freeCall}
 use Rattle.slots.specs.Promises.{InRange, free-promise}
 use Rattle.slots.specs.Records.{Entry, naming-any-order}
 use Rattle.slots.specs.View.{View, answered, changed, changed-says, sound-answers}
-use Rattle.slots.specs.Series.{Asked, take, free, made, answersOf, recordOf, lastOf, last-sound}
+use Rattle.slots.specs.Kinds.{plain}
+use Rattle.slots.specs.Plain.{Asked, take, free, plainCalls}
+use Rattle.slots.specs.Series.{made, answersOf, recordOf, lastOf, last-sound}
 use Rattle.slots.specs.Layouts.{digitsView}
 
 -- four slots in one number: slot s is digit s
-abbrev pub four : View
+abbrev pub four : View plain
 four = digitsView 2
 
 -- only slot 0 is used at first
@@ -32,41 +34,41 @@ takeFirst = take 1 0 ∷ free 0 1 ∷ []
 
 -- the same two calls in two orders, both accepted throughout: the take that is moved gets another run, so the entries are no longer the same, nor is the map
 pub a-moved-take : Perm takeFirst freeFirst
-    × (answersOf four 1 freeFirst ≡ value ok ∷ value (at 0) ∷ []) × (lastOf four 1 freeFirst ≡ 1)
-    × (answersOf four 1 takeFirst ≡ value (at 1) ∷ value ok ∷ []) × (lastOf four 1 takeFirst ≡ 2)
+    × (answersOf four (plainCalls 2) 1 freeFirst ≡ value ok ∷ value (at 0) ∷ []) × (lastOf four (plainCalls 2) 1 freeFirst ≡ 1)
+    × (answersOf four (plainCalls 2) 1 takeFirst ≡ value (at 1) ∷ value ok ∷ []) × (lastOf four (plainCalls 2) 1 takeFirst ≡ 2)
 unfolding changed answered leaving judged takeCall freeCall lowest fitsAt least every within allFree allUsed painted digit number
 a-moved-take = (Perm·swap (free 0 1) (take 1 0) [], refl, refl, refl, refl)
 
 abbrev entry : Bool → ℕ → Entry
-entry v s = record { marks = v; start = s; entries = 1 }
+entry v s = record { used = v; start = s; entries = 1 }
 
-pub its-records : (recordOf four 1 freeFirst ≡ entry false 0 ∷ entry true 0 ∷ []) × (recordOf four 1 takeFirst ≡ entry true 1 ∷ entry false 0 ∷ [])
+pub its-records : (recordOf four (plainCalls 2) 1 freeFirst ≡ entry false 0 ∷ entry true 0 ∷ []) × (recordOf four (plainCalls 2) 1 takeFirst ≡ entry true 1 ∷ entry false 0 ∷ [])
 unfolding changed answered leaving judged takeCall freeCall lowest fitsAt least every within allFree allUsed painted digit number
 its-records = (refl, refl)
 
 -- no order of the one record is the other: only one of them marks slot 1
 pub other-entries : Perm (entry true 1 ∷ entry false 0 ∷ []) (entry false 0 ∷ entry true 0 ∷ []) → ⊥
 unfolding within
-other-entries same = let marks : _≡_ {A = ℕ} 1 0 = naming-any-order true 1 _ _ same in omega arith
+other-entries same = let marks : _≡_ {A = ℕ} 1 0 = naming-any-order plain true 1 _ _ same in omega arith
 
 -- a second free is refused while the slot is free, and the map is not changed; once another has taken the slot again it is accepted: slot numbers alone
 -- cannot tell it
-pub a-second-free : (answersOf four 0 (take 1 0 ∷ free 0 1 ∷ free 0 1 ∷ []) ≡ value (at 0) ∷ value ok ∷ refused 5 ∷ [])
-    × (lastOf four 0 (take 1 0 ∷ free 0 1 ∷ free 0 1 ∷ []) ≡ 0)
-    × (answersOf four 0 (take 1 0 ∷ free 0 1 ∷ take 1 0 ∷ free 0 1 ∷ []) ≡ value (at 0) ∷ value ok ∷ value (at 0) ∷ value ok ∷ [])
+pub a-second-free : (answersOf four (plainCalls 2) 0 (take 1 0 ∷ free 0 1 ∷ free 0 1 ∷ []) ≡ value (at 0) ∷ value ok ∷ refused 5 ∷ [])
+    × (lastOf four (plainCalls 2) 0 (take 1 0 ∷ free 0 1 ∷ free 0 1 ∷ []) ≡ 0)
+    × (answersOf four (plainCalls 2) 0 (take 1 0 ∷ free 0 1 ∷ take 1 0 ∷ free 0 1 ∷ []) ≡ value (at 0) ∷ value ok ∷ value (at 0) ∷ value ok ∷ [])
 unfolding changed answered leaving judged takeCall freeCall lowest fitsAt least every within allFree allUsed painted digit number
 a-second-free = (refl, refl, refl)
 
 -- and in general, over any layout: after any series of calls, whoever made them, a free of a range is accepted exactly when all its slots are used
-pub a-later-free : (L : View) (m : L .Map) → L .Sound m → (cs : List Asked) (s n : ℕ) → InRange (L .k) s n
-    → (made L (lastOf L m cs) (free s n) .0 ≡ value ok) ↔ AllUsed (L .slotOf (lastOf L m cs)) s n
+pub a-later-free : (L : View plain) (m : L .Map) → L .Sound m → (cs : List Asked) (s n : ℕ) → InRange (L .k) s n
+    → (made L (plainCalls (L .k)) (lastOf L (plainCalls (L .k)) m cs) (free s n) .0 ≡ value ok) ↔ AllUsed (L .stateOf (lastOf L (plainCalls (L .k)) m cs)) s n
 a-later-free L m sound cs s n range =
-    let last : L .Map = lastOf L m cs in
-    let accepts = free-promise (L .k) (L .slotOf last) s n in
-    rw (changed-says L last (freeCall (L .k) (L .slotOf last) s n) ∙ sound-answers L last _ (last-sound L m sound cs))
+    let last : L .Map = lastOf L (plainCalls (L .k)) m cs in
+    let accepts = free-promise (L .k) (L .stateOf last) s n in
+    rw (changed-says L last (freeCall (L .k) (L .stateOf last) s n) ∙ sound-answers L last _ (last-sound L (plainCalls (L .k)) (λ X c reply said. tt) m sound cs))
     (λ said. accepts .0 said .1, λ used. accepts .1 (range, used))
 
 -- a free of no entries is refused, whatever the map
-pub a-free-of-none : (m : ℕ) → answersOf four m (free 0 0 ∷ []) ≡ refused 2 ∷ []
+pub a-free-of-none : (m : ℕ) → answersOf four (plainCalls 2) m (free 0 0 ∷ []) ≡ refused 2 ∷ []
 unfolding changed answered leaving judged freeCall
 a-free-of-none m = refl

@@ -1,4 +1,5 @@
 pub mod Sets
+pub mod Kinds
 pub mod Lowest
 pub mod Calls
 pub mod Promises
@@ -6,6 +7,8 @@ pub mod Search
 pub mod Tries
 pub mod Records
 pub mod View
+pub mod Family
+pub mod Plain
 pub mod Series
 pub mod Layouts
 pub mod Readings

@@ -1,9 +1,9 @@
 -- The lowest aligned start for n slots in a map of 2 ^ k. Rests on `Sets`.
 use mathlib.Core.Path.{_≡_}
 use mathlib.Core.Logic.{_↔_}
-use mathlib.Core.Bool.{Bool, _&&_}
-use Prim.Native.Nat.{ℕ, _+_, _%_, _^_, _≤_, _<_, zero-le}
-use native.Mathlib.Nat.{le-antisymm}
+use mathlib.Core.Bool.{Bool, not, _&&_}
+use Prim.Native.Nat.{ℕ, _+_, _-_, _%_, _^_, _≤_, _<_, min, zero-le}
+use native.Mathlib.Nat.{le-antisymm, le-of-lt, min-eq-left}
 use native.Mathlib.Omega.{arith}
 use lib.Dec.{T, leb, eqb, leb→le, le→leb}
 use Rattle.answers.specs.Faults.{finds-le, finds-both}
@@ -23,7 +23,16 @@ fitsAt k S n a o =
 unfoldable pub lowest : ℕ → Slots → ℕ → ℕ → ℕ
 lowest k S n a = least (fitsAt k S n a) 0 (2 ^ k)
 
+-- the least free slot from s on, or 2 ^ k where there is none
+unfoldable pub freeFrom : ℕ → Slots → ℕ → ℕ
+freeFrom k S s = least (λ i. not (S i)) (min s (2 ^ k)) (2 ^ k - s)
+
 -- ---- what they mean
+
+-- from a slot of the map on, the search begins at that slot
+pub free-from-inside : (k : ℕ) (S : Slots) (s : ℕ) → s < 2 ^ k → freeFrom k S s ≡ least (λ i. not (S i)) s (2 ^ k - s)
+unfolding freeFrom
+free-from-inside k S s inside = rw (min-eq-left (le-of-lt inside))
 
 pub record Fits (k : ℕ) (S : Slots) (n a o : ℕ) : Type 0 where
   pub aligned : Multiple (2 ^ a) o

@@ -13,7 +13,7 @@ use Rattle.answers.specs.Faults.{Fault, _if_, Rising, Finds, FaultsDecide, faul
 use Rattle.answers.specs.Answers.{Reply, at, ok}
 use Rattle.bits.specs.Range.{least, count, either, same-test, least-from, least-passes, least-first, le-of-not-lt}
 use Rattle.slots.specs.Sets.{Slots, allFree, finds-all-free, painted, AllFree, AllUsed, SomeUsed, SomeFree, finds-some-used, finds-some-free}
-use Rattle.slots.specs.Lowest.{lowest, LowestFit, NoStart, finds-no-start, lowest-fits, lowest-unique}
+use Rattle.slots.specs.Lowest.{lowest, freeFrom, free-from-inside, LowestFit, NoStart, finds-no-start, lowest-fits, lowest-unique}
 use Rattle.slots.specs.Calls.{Call, says, leaves, past, takeCall, claimCall, freeCall, setCall, nextFreeCall, getCall, emptyCall, usedCall}
 
 -- ---- the faults of document 01's table
@@ -46,7 +46,7 @@ getFaults k i = (4 if (2 ^ k ≤ i)) ∷ []
 
 -- ---- each call's checks find its faults, and their numbers rise above 1, which a layout puts in front
 
-pub record RefusedBy {A : Type 0} (c : Call A) (fs : List Fault) : Type 0 where
+pub record RefusedBy {X A : Type 0} (c : Call X A) (fs : List Fault) : Type 0 where
   pub rising : Rising 1 fs
   pub finds : Finds (c .checks) fs
 
@@ -56,9 +56,10 @@ finds-past k s n = finds-either (ltb (2 ^ k) s) (ltb (2 ^ k - s) n) (finds-lt (2
 has-entries : (n : ℕ) → T (not (eqb n 0)) → 0 < n
 has-entries n t = pos-of-ne-zero (λ e. T-not (eqb n 0) t (finds-eq n 0 .1 e))
 
-finds-none-free : (k : ℕ) (S : Slots) (s : ℕ) → s < 2 ^ k → T (leb (2 ^ k) (least (λ i. not (S i)) s (2 ^ k - s))) ↔ NoneFree k S s
+finds-none-free : (k : ℕ) (S : Slots) (s : ℕ) → s < 2 ^ k → T (leb (2 ^ k) (freeFrom k S s)) ↔ NoneFree k S s
 finds-none-free k S s h =
-    let slot = least (λ i. not (S i)) s (2 ^ k - s) in (
+    let slot = least (λ i. not (S i)) s (2 ^ k - s) in
+    rw (free-from-inside k S s h) (
       λ t i l b. not-false (S i) (least-first (λ i. not (S i)) s (2 ^ k - s) i l (omega (arith, leb→le (2 ^ k) slot t))),
       λ none. le→leb (2 ^ k) slot (le-of-not-lt (λ lt.
           true≢false (sym (none slot (least-from (λ i. not (S i)) s (2 ^ k - s)) lt) ∙ not-true (S slot) (least-passes (λ i. not (S i)) s (2 ^ k - s) (omega arith))))),
@@ -106,7 +107,7 @@ unfolding usedCall
 used-refused k S = record { rising = tt; finds = tt }
 
 -- the answer is refusal r exactly when r is the least number whose fault holds, and the call is accepted exactly when none does
-pub says-decided : {A : Type 0} (c : Call A) (fs : List Fault) → RefusedBy c fs → FaultsDecide (says c) (c .answer) fs
+pub says-decided : {X A : Type 0} (c : Call X A) (fs : List Fault) → RefusedBy c fs → FaultsDecide (says c) (c .answer) fs
 unfolding says
 says-decided c fs h = faults-decide (c .checks) fs (c .answer) (rising-lower fs (h .rising)) (h .finds)
   where
@@ -240,11 +241,11 @@ module _ (k : ℕ) (S : Slots) (s n : ℕ) where
   set-after v = refl
 
 -- a call that is refused leaves the set as it was
-pub refused-leaves : {A : Type 0} (S : Slots) (c : Call A) (r : ℕ) → says c ≡ refused r → leaves S c ≡ S
+pub refused-leaves : {X A : Type 0} (S : X) (c : Call X A) (r : ℕ) → says c ≡ refused r → leaves S c ≡ S
 unfolding leaves
 refused-leaves S c r said = leaving-refused (λ _. c .after) S (says c) r (leaving-says (λ _. c .after) S (says c) ∙ said)
 
-pub accepted-leaves : {A : Type 0} (S : Slots) (c : Call A) (a : A) → says c ≡ value a → leaves S c ≡ c .after
+pub accepted-leaves : {X A : Type 0} (S : X) (c : Call X A) (a : A) → says c ≡ value a → leaves S c ≡ c .after
 unfolding leaves
 accepted-leaves S c a said = leaving-value (λ _. c .after) S (says c) a (leaving-says (λ _. c .after) S (says c) ∙ said)
 
@@ -262,24 +263,19 @@ next-free-unique k S s q r f g = le-antisymm (not-later q r f g) (not-later r q 
     not-later q r f g = le-of-not-lt (λ lt. true≢false (sym (f .first r (g .from) lt) ∙ g .free))
 
 module _ (k : ℕ) (S : Slots) where
-  -- the slot that the search from s on comes to
-  unfoldable pub slotFrom : ℕ → ℕ
-  slotFrom s = least (λ i. not (S i)) s (2 ^ k - s)
-
-  least-free : (s : ℕ) → s < 2 ^ k → (NoneFree k S s → ⊥) → NextFree k S s (slotFrom s)
-  unfolding slotFrom
+  least-free : (s : ℕ) → s < 2 ^ k → (NoneFree k S s → ⊥) → NextFree k S s (freeFrom k S s)
   least-free s inside some =
       let test : ℕ → Bool = λ i. not (S i) in
-      let found : slotFrom s < 2 ^ k = lt-of-not-le (λ l. some (finds-none-free k S s inside .0 (le→leb _ _ l))) in
-      record {
+      let found : freeFrom k S s < 2 ^ k = lt-of-not-le (λ l. some (finds-none-free k S s inside .0 (le→leb _ _ l))) in
+      rw (free-from-inside k S s inside) (record {
         from = least-from test s (2 ^ k - s);
-        inside = found;
-        free = not-true (S (slotFrom s)) (least-passes test s (2 ^ k - s) (omega arith));
+        inside = rw (free-from-inside k S s inside) at found;
+        free = not-true (S (least test s (2 ^ k - s))) (least-passes test s (2 ^ k - s) (omega (arith, rw (free-from-inside k S s inside) at found)));
         first = λ i l h. not-false (S i) (least-first test s (2 ^ k - s) i l h);
-      }
+      })
 
-  pub next-free-decided : (s : ℕ) → FaultsDecide (says (nextFreeCall k S s)) (slotFrom s) (nextFreeFaults k S s)
-  unfolding nextFreeCall slotFrom
+  pub next-free-decided : (s : ℕ) → FaultsDecide (says (nextFreeCall k S s)) (freeFrom k S s) (nextFreeFaults k S s)
+  unfolding nextFreeCall
   next-free-decided s = says-decided (nextFreeCall k S s) (nextFreeFaults k S s) (next-free-refused k S s)
 
   pub next-free-promise : (s r : ℕ) → (says (nextFreeCall k S s) ≡ value r) ↔ NextFree k S s r
@@ -293,7 +289,7 @@ module _ (k : ℕ) (S : Slots) where
         let taken : NoneFree k S s → ⊥ = λ none. true≢false (sym (none r (g .from) (g .inside)) ∙ g .free) in
         next-free-decided s .accepts r .1 (
           λ j. ⊎-elim (λ f. omega (arith, f .1)) (⊎-elim (λ f. taken (f .1)) (λ f. f)),
-          next-free-unique k S s (slotFrom s) r (least-free s inside taken) g,
+          next-free-unique k S s (freeFrom k S s) r (least-free s inside taken) g,
         ),
   )
 

@@ -1,5 +1,5 @@
--- Demand 3, over any layout: a series of calls, the record that it writes down, and that the record can be walked backward, replayed, and reordered.
--- Rests on `View` and on `Records`.
+-- Demand 3, over any kind of state, any layout and any family of calls: a series of calls, the record that it writes down, and that the record can be
+-- walked backward, replayed, and reordered. Only the bridges know what a call does. Rests on `View` and on `Family`.
 use mathlib.Core.Path.{_≡_, refl, sym, ap, subst, fun-ext, _∙_}
 use mathlib.Core.Bool.{Bool, true, false}
 use mathlib.Core.List.{List, [], _∷_, _++_, map, reverse, reverse-cons, map-append, Perm}
@@ -8,55 +8,14 @@ use native.Mathlib.Omega.{arith}
 use lib.Dec.{ltb}
 use borrow.Author.Tests.{ltb-true, ltb-false}
 use Rattle.answers.specs.Said.{Said, value, refused}
-use Rattle.answers.specs.Answers.{Reply, at, ok}
+use Rattle.answers.specs.Answers.{Reply, ok}
 use Rattle.bits.specs.Range.{either}
-use Rattle.slots.specs.Sets.{Slots, painted-other}
-use Rattle.slots.specs.Lowest.{lowest}
-use Rattle.slots.specs.Calls.{Call, says, takeCall, claimCall, freeCall}
-use Rattle.slots.specs.Promises as Promises
-use Rattle.slots.specs.Records.{Entry, undo, after, Fit, AllFit, finally, undo-fits, undo-restores, any-order}
-use Rattle.slots.specs.View.{View, changed, changed-says, changed-refused, changed-sound, changed-map, sound-answers, says-accepted, same-slots}
-
--- ---- a series: any list of take, claim and free calls with any numbers. Loose set is not among them
-
-pub data Asked : Type 0 where
-  -- n slots at a multiple of 2 ^ a
-  take : (n a : ℕ) → Asked
-  -- the n slots from s on
-  claim : (s n : ℕ) → Asked
-  free : (s n : ℕ) → Asked
-
-abbrev pub callOf : ℕ → Slots → Asked → Call Reply
-callOf k S (take n a) = takeCall k S n a
-callOf k S (claim s n) = claimCall k S s n
-callOf k S (free s n) = freeCall k S s n
-
--- where the run that was taken starts
-abbrev startOf : Reply → ℕ
-startOf (at o) = o
-startOf ok = 0
-
--- what an accepted call writes down: the run that was taken or claimed, or the range that was freed
-abbrev pub entryOf : Asked → Reply → Entry
-entryOf (take n a) reply = record { marks = true; start = startOf reply; entries = n }
-entryOf (claim s n) reply = record { marks = true; start = s; entries = n }
-entryOf (free s n) reply = record { marks = false; start = s; entries = n }
-
--- a refused call leaves no entry
-abbrev pub written : Asked → Said Reply → List Entry → List Entry
-written asked (value reply) es = entryOf asked reply ∷ es
-written asked (refused r) es = es
-
--- an entry as a call: a take stands as a claim of its run
-abbrev pub askedFor : Entry → Asked
-askedFor e = elim (e .marks) [ true ↦ claim (e .start) (e .entries) | false ↦ free (e .start) (e .entries) ]
-
--- the calls that replay a record, and those that walk it backward from its end: free what was taken or claimed, claim what was freed
-abbrev pub forward : List Entry → List Asked
-forward es = map askedFor es
-
-abbrev pub backward : List Entry → List Asked
-backward es = map (λ e. askedFor (undo e)) (reverse es)
+use Rattle.slots.specs.Promises.{InRange}
+use Rattle.slots.specs.Kinds.{Kind, State, turned-other}
+use Rattle.slots.specs.Calls.{Call, says}
+use Rattle.slots.specs.Records.{Entry, undo, after, Turns, AllTurn, finally, touches, undo-restores, any-order}
+use Rattle.slots.specs.View.{View, changed, changed-says, changed-refused, changed-sound, changed-map, sound-answers, says-accepted, same-state}
+use Rattle.slots.specs.Family.{Family, Bridge}
 
 -- every answer accepts
 abbrev pub AllDone : List (Said Reply) → Type 0
@@ -65,10 +24,25 @@ AllDone (said ∷ rest) = (said ≡ value ok) × AllDone rest
 
 -- ---- running it
 
-module _ (L : View) where
+module _ {K : Kind} (L : View K) (F : Family K (L .k)) where
+  abbrev Asked : Type 0
+  Asked = F .Asked
+
+  -- a refused call leaves no entry
+  abbrev pub written : Asked → Said Reply → List Entry → List Entry
+  written asked (value reply) es = F .entryOf asked reply ∷ es
+  written asked (refused r) es = es
+
+  -- the calls that replay a record, and those that walk it backward from its end
+  abbrev pub forward : List Entry → List Asked
+  forward es = map (F .askedFor) es
+
+  abbrev pub backward : List Entry → List Asked
+  backward es = map (λ e. F .askedFor (undo e)) (reverse es)
+
   -- one call: its answer and the map that it leaves, as the contracts have them
   abbrev pub made : L .Map → Asked → Said Reply × L .Map
-  made m c = changed L m (callOf (L .k) (L .slotOf m) c)
+  made m c = changed L m (F .callOf (L .stateOf m) c)
 
   -- the answers; the map after each call; the last map
   abbrev pub answersOf : L .Map → List Asked → List (Said Reply)
@@ -88,7 +62,7 @@ module _ (L : View) where
   recordOf m [] = []
   recordOf m (c ∷ cs) = written c (made m c .0) (recordOf (made m c .1) cs)
 
-  abbrev kept : L .Map → Said Reply → List (L .Map) → List (L .Map)
+  abbrev pub kept : L .Map → Said Reply → List (L .Map) → List (L .Map)
   kept m (value reply) ms = m ∷ ms
   kept m (refused r) ms = ms
 
@@ -134,103 +108,78 @@ module _ (L : View) where
   last-then m [] ds = refl
   last-then m (c ∷ cs) ds = last-then (made m c .1) cs ds
 
-  -- a series from a sound map ends in a sound map
-  pub last-sound : (m : L .Map) → L .Sound m → (cs : List Asked) → L .Sound (lastOf m cs)
-  last-sound m sound [] = sound
-  last-sound m sound (c ∷ cs) = last-sound (made m c .1) (changed-sound L m _ sound) cs
+  -- where each call keeps the rule, a series from a sound map ends in a sound map
+  pub last-sound : ((X : State K) (c : Asked) (reply : Reply) → says (F .callOf X c) ≡ value reply → K .Right (F .callOf X c .after))
+      → (m : L .Map) → L .Sound m → (cs : List Asked) → L .Sound (lastOf m cs)
+  last-sound keeps m sound [] = sound
+  last-sound keeps m sound (c ∷ cs) = last-sound keeps (made m c .1) (changed-sound L m (F .callOf (L .stateOf m) c) sound (keeps (L .stateOf m) c)) cs
 
   all-done-then : (xs ys : List (Said Reply)) → AllDone xs → AllDone ys → AllDone (xs ++ ys)
   all-done-then [] ys d e = e
   all-done-then (x ∷ xs) ys d e = (d .0, all-done-then xs ys (d .1) e)
 
-  -- ---- one bridge for each call: an accepted call is the claim or the free of the range that it writes down
+  -- ---- on a sound map each call is its bridge
 
-  record Sure (m : L .Map) : Type 0 where
-    sound : L .Sound m
-    held : L .IsMap m
-
-  next-sure : (m : L .Map) → Sure m → (c : Asked) → Sure (made m c .1)
-  next-sure m sure c = record { sound = changed-sound L m _ (sure .sound); held = changed-map L m _ (sure .held) }
+  pub record Sure (m : L .Map) : Type 0 where
+    pub sound : L .Sound m
+    pub held : L .IsMap m
 
   module _ (m : L .Map) (sure : Sure m) where
-    abbrev S : Slots
-    S = L .slotOf m
+    abbrev X : State K
+    X = L .stateOf m
 
-    said-by : (call : Call Reply) (x : Said Reply) → changed L m call .0 ≡ x → says call ≡ x
-    said-by call x e = sym (sound-answers L m call (sure .sound)) ∙ sym (changed-says L m call) ∙ e
+    pub said-by : (c : Asked) (x : Said Reply) → made m c .0 ≡ x → says (F .callOf X c) ≡ x
+    said-by c x e = sym (sound-answers L m (F .callOf X c) (sure .sound)) ∙ sym (changed-says L m (F .callOf X c)) ∙ e
 
-    left-by : (call : Call Reply) (reply : Reply) (set : Slots) → says call ≡ value reply → call .after ≡ set → changed L m call ≡ (value reply, L .ofSlots set)
-    left-by call reply set said e =
-        says-accepted L m call reply (sound-answers L m call (sure .sound) ∙ said) ∙ ap (λ (T : Slots). (value reply, L .ofSlots T)) e
+    pub bridged : (c : Asked) (reply : Reply) → says (F .callOf X c) ≡ value reply → Bridge K (L .k) Asked (F .callOf) (F .askedFor) X c (F .entryOf c reply)
+    bridged c reply said = F .bridge X (L .right m (sure .sound) (sure .held)) c reply said
 
-    fits-as : (c : Asked) (reply : Reply) → made m c .0 ≡ value reply → Fit (L .k) S (entryOf c reply)
-    fits-as (take n a) reply e =
-        let said = said-by (takeCall (L .k) S n a) (value reply) e in
-        let o = lowest (L .k) S n a in
-        let start : at o ≡ reply = Promises.take-decided (L .k) S n a .accepts reply .0 said .1 in
-        let granted = Promises.take-promise (L .k) S n a o .0 (said ∙ ap value (sym start)) in
-        subst (λ (r : Reply). Fit (L .k) S (entryOf (take n a) r)) start
-        (record { range = (granted .0, granted .3 .fits .ends); other = granted .3 .fits .free })
-    fits-as (claim s n) reply e =
-        let said = said-by (claimCall (L .k) S s n) (value reply) e in
-        let same : ok ≡ reply = Promises.claim-decided (L .k) S s n .accepts reply .0 said .1 in
-        let promised = Promises.claim-promise (L .k) S s n .0 (said ∙ ap value (sym same)) in
-        record { range = promised .0; other = promised .1 }
-    fits-as (free s n) reply e =
-        let said = said-by (freeCall (L .k) S s n) (value reply) e in
-        let same : ok ≡ reply = Promises.free-decided (L .k) S s n .accepts reply .0 said .1 in
-        let promised = Promises.free-promise (L .k) S s n .0 (said ∙ ap value (sym same)) in
-        record { range = promised .0; other = promised .1 }
+    -- what the state accepts, the map does, and holds the state that is left
+    pub accepts : (c : Asked) (reply : Reply) → says (F .callOf X c) ≡ value reply → made m c ≡ (value reply, L .ofState (after K X (F .entryOf c reply)))
+    accepts c reply said =
+        says-accepted L m (F .callOf X c) reply (sound-answers L m (F .callOf X c) (sure .sound) ∙ said)
+        ∙ ap (λ (Y : State K). (value reply, L .ofState Y)) (bridged c reply said .leaves-as)
 
-    leaves-as : (c : Asked) (reply : Reply) → made m c .0 ≡ value reply → made m c .1 ≡ L .ofSlots (after S (entryOf c reply))
-    leaves-as (take n a) reply e =
-        let said = said-by (takeCall (L .k) S n a) (value reply) e in
-        let o = lowest (L .k) S n a in
-        let start : at o ≡ reply = Promises.take-decided (L .k) S n a .accepts reply .0 said .1 in
-        ap (λ out. out .1) (left-by (takeCall (L .k) S n a) reply _ said (Promises.take-after (L .k) S n a o (said ∙ ap value (sym start))))
-        ∙ ap (λ (r : Reply). L .ofSlots (after S (entryOf (take n a) r))) start
-    leaves-as (claim s n) reply e =
-        ap (λ out. out .1) (left-by (claimCall (L .k) S s n) reply _ (said-by _ (value reply) e) (Promises.claim-after (L .k) S s n))
-    leaves-as (free s n) reply e =
-        ap (λ out. out .1) (left-by (freeCall (L .k) S s n) reply _ (said-by _ (value reply) e) (Promises.free-after (L .k) S s n))
-
-    -- and an entry that is accepted, asked as a call
-    asked-fits : (v : Bool) (s n : ℕ) → Fit (L .k) S (record { marks = v; start = s; entries = n })
-        → made m (askedFor (record { marks = v; start = s; entries = n })) ≡ (value ok, L .ofSlots (after S (record { marks = v; start = s; entries = n })))
-    asked-fits true s n fit =
-        left-by (claimCall (L .k) S s n) ok _ (Promises.claim-promise (L .k) S s n .1 (fit .range, fit .other)) (Promises.claim-after (L .k) S s n)
-    asked-fits false s n fit =
-        left-by (freeCall (L .k) S s n) ok _ (Promises.free-promise (L .k) S s n .1 (fit .range, fit .other)) (Promises.free-after (L .k) S s n)
-
-    fits-asked : (v : Bool) (s n : ℕ) → made m (askedFor (record { marks = v; start = s; entries = n })) .0 ≡ value ok
-        → Fit (L .k) S (record { marks = v; start = s; entries = n })
-    fits-asked true s n e = fits-as (claim s n) ok e
-    fits-asked false s n e = fits-as (free s n) ok e
-
-    -- the map that an accepted entry leaves holds the set that it leaves
-    slots-left : (e : Entry) → Fit (L .k) S e → L .slotOf (L .ofSlots (after S e)) ≡ after S e
-    slots-left e fit = fun-ext (λ i.
-        either (ltb i (2 ^ L .k)) (λ inside. L .holds (after S e) i (ltb-true i (2 ^ L .k) inside))
+    state-left : (e : Entry) → InRange (L .k) (e .start) (e .entries) → L .stateOf (L .ofState (after K X e)) ≡ after K X e
+    state-left e range = fun-ext (λ p.
+        either (ltb (K .slotFor p) (2 ^ L .k)) (λ inside. L .holds (after K X e) p (ltb-true (K .slotFor p) (2 ^ L .k) inside))
         (λ out.
-        let past = ltb-false i (2 ^ L .k) out in
-        L .past _ (L .made-map (after S e)) i past
-        ∙ sym (painted-other S (e .start) (e .entries) (e .marks) i (λ h. omega (arith, fit .range .1, h .1, past)) ∙ L .past m (sure .held) i past)))
+        let past = ltb-false (K .slotFor p) (2 ^ L .k) out in
+        let apart : touches K e p ≡ false =
+        either (touches K e p) (λ t. let own = K .names-own (e .start) (e .entries) p t in absurd (omega (arith, range .1, own .1, past))) (λ f. f) in
+        L .past _ (L .made-map (after K X e)) p past
+        ∙ sym (turned-other K X (e .start) (e .entries) (e .used) p apart ∙ L .past m (sure .held) p past)))
 
-  module _ (m : L .Map) (sure : Sure m) (e : Entry) where
-    abbrev next : L .Map
-    next = made m (askedFor e) .1
+    pub next-state : (c : Asked) (reply : Reply) → says (F .callOf X c) ≡ value reply → L .stateOf (made m c .1) ≡ after K X (F .entryOf c reply)
+    next-state c reply said = ap (λ out. L .stateOf (out .1)) (accepts c reply said) ∙ state-left (F .entryOf c reply) (bridged c reply said .range)
 
-    next-slots : Fit (L .k) (L .slotOf m) e → L .slotOf next ≡ after (L .slotOf m) e
-    next-slots fit = ap (λ out. L .slotOf (out .1)) (asked-fits m sure (e .marks) (e .start) (e .entries) fit) ∙ slots-left m sure e fit
+    pub next-sure : (c : Asked) → Sure (made m c .1)
+    next-sure c = record {
+      sound = changed-sound L m (F .callOf X c) (sure .sound) (λ reply said. rw (bridged c reply said .leaves-as) (bridged c reply said .keeps));
+      held = changed-map L m (F .callOf X c) (sure .held);
+    }
 
-    -- undoing an accepted entry gives back the very map
-    undone : Fit (L .k) (L .slotOf m) e → (left : L .Map) → Sure left → left ≡ L .ofSlots (after (L .slotOf m) e) → made left (askedFor (undo e)) ≡ (value ok, m)
-    undone fit left sure-left is =
-        let slots : L .slotOf left ≡ after (L .slotOf m) e = ap (L .slotOf) is ∙ slots-left m sure e fit in
-        let back : Fit (L .k) (L .slotOf left) (undo e) = rw slots (undo-fits (L .k) (L .slotOf m) e fit) in
-        asked-fits left sure-left (undo e .marks) (undo e .start) (undo e .entries) back
-        ∙ ap (λ (T : Slots). (value ok, L .ofSlots T)) (ap (λ (T : Slots). after T (undo e)) slots ∙ undo-restores (L .k) (L .slotOf m) e fit)
-        ∙ ap (λ (x : L .Map). (value ok, x)) (L .same m (sure .sound) (sure .held))
+    -- an accepted call, replayed as its entry
+    again : (c : Asked) (reply : Reply) → says (F .callOf X c) ≡ value reply → made m (F .askedFor (F .entryOf c reply)) ≡ (value ok, made m c .1)
+    again c reply said =
+        let e = F .entryOf c reply in
+        accepts (F .askedFor e) ok (bridged c reply said .replays)
+        ∙ ap (λ (f : Entry). (value ok, L .ofState (after K X f))) (F .entry-asked e ok)
+        ∙ ap (λ out. (value ok, out .1)) (sym (accepts c reply said))
+
+  -- undoing an accepted call gives back the very map
+  undone : (m : L .Map) (sure : Sure m) (c : Asked) (reply : Reply) → says (F .callOf (L .stateOf m) c) ≡ value reply
+      → made (made m c .1) (F .askedFor (undo (F .entryOf c reply))) ≡ (value ok, m)
+  undone m sure c reply said =
+      let e = F .entryOf c reply in
+      let bridge = bridged m sure c reply said in
+      let mid = made m c .1 in
+      let state : L .stateOf mid ≡ after K (L .stateOf m) e = next-state m sure c reply said in
+      let accepted : says (F .callOf (L .stateOf mid) (F .askedFor (undo e))) ≡ value ok = ap (λ (Y : State K). says (F .callOf Y (F .askedFor (undo e)))) state ∙ bridge .undoes in
+      accepts mid (next-sure m sure c) (F .askedFor (undo e)) ok accepted
+      ∙ ap (λ (f : Entry). (value ok, L .ofState (after K (L .stateOf mid) f))) (F .entry-asked (undo e) ok)
+      ∙ ap (λ (Y : State K). (value ok, L .ofState Y)) (ap (λ (Y : State K). after K Y (undo e)) state ∙ undo-restores K (L .stateOf m) e (bridge .turns))
+      ∙ ap (λ (x : L .Map). (value ok, x)) (L .same m (sure .sound) (sure .held))
 
   -- ---- the whole walk backward, from the last map
 
@@ -241,16 +190,16 @@ module _ (L : View) where
     pub home : lastOf last (backward es) ≡ first
 
   back-more : (last : L .Map) (es : List Entry) (bs : List (L .Map)) (mid : L .Map) → Back last es bs mid
-      → (e : Entry) (m : L .Map) → made mid (askedFor (undo e)) ≡ (value ok, m) → Back last (e ∷ es) (m ∷ bs) m
+      → (e : Entry) (m : L .Map) → made mid (F .askedFor (undo e)) ≡ (value ok, m) → Back last (e ∷ es) (m ∷ bs) m
   back-more last es bs mid back e m step =
-      let further : backward (e ∷ es) ≡ backward es ++ (askedFor (undo e) ∷ []) =
-      ap (map (λ x. askedFor (undo x))) (reverse-cons e es) ∙ map-append (λ x. askedFor (undo x)) (reverse es) (e ∷ []) in
-      let at-mid : made (lastOf last (backward es)) (askedFor (undo e)) ≡ (value ok, m) = rw (back .home) step in
+      let further : backward (e ∷ es) ≡ backward es ++ (F .askedFor (undo e) ∷ []) =
+      ap (map (λ x. F .askedFor (undo x))) (reverse-cons e es) ∙ map-append (λ x. F .askedFor (undo x)) (reverse es) (e ∷ []) in
+      let at-mid : made (lastOf last (backward es)) (F .askedFor (undo e)) ≡ (value ok, m) = rw (back .home) step in
       record {
-        accepted = rw (further, answers-then last (backward es) (askedFor (undo e) ∷ [])) (all-done-then (answersOf last (backward es)) (answersOf (lastOf last (backward es)) (askedFor (undo e) ∷ [])) (back .accepted) (ap (λ out. out .0) at-mid, tt));
-        met = ap (mapsOf last) further ∙ maps-then last (backward es) (askedFor (undo e) ∷ [])
+        accepted = rw (further, answers-then last (backward es) (F .askedFor (undo e) ∷ [])) (all-done-then (answersOf last (backward es)) (answersOf (lastOf last (backward es)) (F .askedFor (undo e) ∷ [])) (back .accepted) (ap (λ out. out .0) at-mid, tt));
+        met = ap (mapsOf last) further ∙ maps-then last (backward es) (F .askedFor (undo e) ∷ [])
             ∙ (λ i. back .met i ++ (at-mid i .1 ∷ [])) ∙ sym (reverse-cons m bs);
-        home = ap (lastOf last) further ∙ last-then last (backward es) (askedFor (undo e) ∷ []) ∙ ap (λ out. out .1) at-mid;
+        home = ap (lastOf last) further ∙ last-then last (backward es) (F .askedFor (undo e) ∷ []) ∙ ap (λ out. out .1) at-mid;
       }
 
   either-said : {P : Type 0} (said : Said Reply) → ((reply : Reply) → said ≡ value reply → P) → ((r : ℕ) → said ≡ refused r → P) → P
@@ -266,11 +215,10 @@ module _ (L : View) where
       (λ reply e.
       let es = ap (λ (said : Said Reply). written c said (recordOf mid cs)) e in
       let bs = ap (λ (said : Said Reply). kept m said (beforeOf mid cs)) e in
-      let fit = fits-as m sure c reply e in
       subst (λ (x : List Entry). Back (lastOf mid cs) x (beforeOf m (c ∷ cs)) m) (sym es)
-      (subst (λ (x : List (L .Map)). Back (lastOf mid cs) (entryOf c reply ∷ recordOf mid cs) x m) (sym bs)
-      (back-more (lastOf mid cs) (recordOf mid cs) (beforeOf mid cs) mid rest (entryOf c reply) m
-      (undone m sure (entryOf c reply) fit mid (next-sure m sure c) (leaves-as m sure c reply e)))))
+      (subst (λ (x : List (L .Map)). Back (lastOf mid cs) (F .entryOf c reply ∷ recordOf mid cs) x m) (sym bs)
+      (back-more (lastOf mid cs) (recordOf mid cs) (beforeOf mid cs) mid rest (F .entryOf c reply) m
+      (undone m sure c reply (said-by m sure c (value reply) e)))))
       (λ r e.
       let es = ap (λ (said : Said Reply). written c said (recordOf mid cs)) e in
       let bs = ap (λ (said : Said Reply). kept m said (beforeOf mid cs)) e in
@@ -291,10 +239,8 @@ module _ (L : View) where
       let rest = forth mid (next-sure m sure c) cs in
       either-said (made m c .0)
       (λ reply e.
-      let entry = entryOf c reply in
       let es = ap (λ (said : Said Reply). written c said (recordOf mid cs)) e in
-      let step : made m (askedFor entry) ≡ (value ok, mid) =
-      asked-fits m sure (entry .marks) (entry .start) (entry .entries) (fits-as m sure c reply e) ∙ ap (λ (x : L .Map). (value ok, x)) (sym (leaves-as m sure c reply e)) in
+      let step : made m (F .askedFor (F .entryOf c reply)) ≡ (value ok, mid) = again m sure c reply (said-by m sure c (value reply) e) in
       subst (λ (x : List Entry). Forth m x (lastOf mid cs)) (sym es)
       (record {
         accepted = (ap (λ out. out .0) step, subst (λ (x : L .Map). AllDone (answersOf x (forward (recordOf mid cs)))) (sym (ap (λ out. out .1) step)) (rest .accepted));
@@ -311,15 +257,18 @@ module _ (L : View) where
   last-sure m sure [] = sure
   last-sure m sure (c ∷ cs) = last-sure (made m c .1) (next-sure m sure c) cs
 
-  -- entries that are accepted throughout fit one after the other, and the map at the end holds the set that they leave
-  all-fit : (m : L .Map) → Sure m → (es : List Entry) → AllDone (answersOf m (forward es))
-      → AllFit (L .k) (L .slotOf m) es × (L .slotOf (lastOf m (forward es)) ≡ finally (L .slotOf m) es)
-  all-fit m sure [] done = (tt, refl)
-  all-fit m sure (e ∷ es) done =
-      let fit = fits-asked m sure (e .marks) (e .start) (e .entries) (done .0) in
-      let slots = next-slots m sure e fit in
-      let rest = all-fit (next m sure e) (next-sure m sure (askedFor e)) es (done .1) in
-      ((fit, subst (λ (T : Slots). AllFit (L .k) T es) slots (rest .0)), rest .1 ∙ ap (λ (T : Slots). finally T es) slots)
+  -- entries that are accepted throughout turn one after the other, and the map at the end holds the state that they leave
+  all-turn : (m : L .Map) → Sure m → (es : List Entry) → AllDone (answersOf m (forward es))
+      → AllTurn K (L .stateOf m) es × (L .stateOf (lastOf m (forward es)) ≡ finally K (L .stateOf m) es)
+  all-turn m sure [] done = (tt, refl)
+  all-turn m sure (e ∷ es) done =
+      let c = F .askedFor e in
+      let said = said-by m sure c (value ok) (done .0) in
+      let back = F .entry-asked e ok in
+      let turns : Turns K (L .stateOf m) e = subst (λ (f : Entry). Turns K (L .stateOf m) f) back (bridged m sure c ok said .turns) in
+      let state : L .stateOf (made m c .1) ≡ after K (L .stateOf m) e = next-state m sure c ok said ∙ ap (λ (f : Entry). after K (L .stateOf m) f) back in
+      let rest = all-turn (made m c .1) (next-sure m sure c) es (done .1) in
+      ((turns, subst (λ (Y : State K). AllTurn K Y es) state (rest .0)), rest .1 ∙ ap (λ (Y : State K). finally K Y es) state)
 
   -- ---- demand 3
 
@@ -338,10 +287,10 @@ module _ (L : View) where
     -- and so does every order of its entries that is accepted
     pub in-any-order : (es : List Entry) → Perm es (recordOf m cs) → AllDone (answersOf m (forward es)) → lastOf m (forward es) ≡ lastOf m cs
     in-any-order es same done =
-        let again = all-fit m sure es done in
-        let first = all-fit m sure (recordOf m cs) (replayed .accepted) in
+        let once = all-turn m sure es done in
+        let first = all-turn m sure (recordOf m cs) (replayed .accepted) in
         let one = last-sure m sure (forward es) in
         let other = last-sure m sure (forward (recordOf m cs)) in
-        same-slots L (lastOf m (forward es)) (lastOf m (forward (recordOf m cs))) (one .sound) (one .held) (other .sound) (other .held)
-        (λ p l. ap (λ T. T p) (again .1) ∙ any-order (L .k) (L .slotOf m) es (recordOf m cs) same (again .0) (first .0) p ∙ sym (ap (λ T. T p) (first .1)))
+        same-state L (lastOf m (forward es)) (lastOf m (forward (recordOf m cs))) (one .sound) (one .held) (other .sound) (other .held)
+        (λ p l. ap (λ Y. Y p) (once .1) ∙ any-order K (L .stateOf m) es (recordOf m cs) same (once .0) (first .0) p ∙ sym (ap (λ Y. Y p) (first .1)))
         ∙ replayed .ends

@@ -1,19 +1,19 @@
 -- One turn of the search that take makes, over the capacity: the next free slot from the try on, what is known of it, and the try that follows.
 -- The loops of the word and of the tree cite these. Rests on `Search`.
 use mathlib.Core.Path.{_≡_, sym, _∙_}
-use mathlib.Core.Bool.{Bool, true, false, not, true≢false}
+use mathlib.Core.Bool.{Bool, true, false, true≢false}
 use mathlib.Core.List.{[], _∷_}
-use Prim.Native.Nat.{ℕ, _+_, _-_, _*_, _/_, _%_, _^_, _≤_, _<_, min, zero-le}
-use native.Mathlib.Nat.{min-eq-left, le-of-lt, le-refl, le-antisymm, mod-eq-of-lt}
+use Prim.Native.Nat.{ℕ, _+_, _-_, _*_, _/_, _%_, _^_, _≤_, _<_, zero-le}
+use native.Mathlib.Nat.{le-refl, le-antisymm, mod-eq-of-lt}
 use native.Mathlib.Omega.{arith}
 use lib.Dec.{leb, eqb}
 use lib.Pow.{pow-lt}
 use borrow.Author.Tests.{ne-eqb, le-ltb, lt-leb, le-leb, eqb-true, eqb-false}
 use Rattle.answers.specs.Said.{Said, value, refused, _when_, judged, onValue, judged-found, judged-passed, judged-next, judged-onValue}
 use Rattle.answers.specs.Answers.{at}
-use Rattle.bits.specs.Range.{either, least}
+use Rattle.bits.specs.Range.{either}
 use Rattle.slots.specs.Sets.{Slots, allFree, AllFree, finds-all-free}
-use Rattle.slots.specs.Lowest.{lowest, Fits, LowestFit, NoStart}
+use Rattle.slots.specs.Lowest.{lowest, freeFrom, Fits, LowestFit, NoStart}
 use Rattle.slots.specs.Calls.{says, takeCall, nextFreeCall}
 use Rattle.slots.specs.Promises.{NextFree, NoneFree, next-free-promise, next-free-none}
 use Rattle.slots.specs.Search.{Searched, nextMultiple, next-above, next-near, searched-none, searched-on, lowest-is, lowest-none}
@@ -21,10 +21,6 @@ use Rattle.slots.specs.Search.{Searched, nextMultiple, next-above, next-
 -- a slot below the capacity, or no room
 unfoldable pub slotOrNone : ℕ → ℕ → Said ℕ
 slotOrNone k slot = judged ((7 when leb (2 ^ k) slot) ∷ []) slot
-
--- the least free slot from s on, or 2 ^ k where there is none
-unfoldable pub freeFrom : ℕ → Slots → ℕ → ℕ
-freeFrom k S s = least (λ i. not (S i)) (min s (2 ^ k)) (2 ^ k - s)
 
 -- the try after the one at `start`, from which `free` is the next free slot
 unfoldable pub nextTry : ℕ → ℕ → ℕ → ℕ
@@ -53,8 +49,8 @@ take-searched k S n a pos small few =
 module _ (k : ℕ) (S : Slots) (start : ℕ) (inside : start < 2 ^ k) where
   -- what the search for it says is what the set says
   pub next-says : slotOrNone k (freeFrom k S start) ≡ says (nextFreeCall k S start)
-  unfolding slotOrNone freeFrom says nextFreeCall judged
-  next-says = rw (min-eq-left (le-of-lt inside), lt-leb (2 ^ k) start inside)
+  unfolding slotOrNone says nextFreeCall judged
+  next-says = rw (lt-leb (2 ^ k) start inside)
 
   pub next-found : (free : ℕ) → value free ≡ slotOrNone k (freeFrom k S start) → NextFree k S start free
   next-found free told = next-free-promise k S start free .0 (sym next-says ∙ sym told)

@@ -28,7 +28,7 @@ use Rattle.slots.specs.Promises.{take-after}
 use Rattle.slots.specs.View.{answered, found-sound, says-refused, says-accepted, made-alike}
 use Rattle.tree.specs.declared.Tree.{Tree}
 use Rattle.tree.specs.declared.Changed.{Changed}
-use Rattle.tree.specs.Layout.{treeOf, treeView, slotOf, ofSlots, Sound, IsTree, parted, slots-seen}
+use Rattle.tree.specs.Layout.{treeOf, holding, treeView, slotOf, ofSlots, Sound, IsTree, parted, slots-seen}
 use Rattle.tree.specs.Inner.{paintedTree, leftBy}
 use Rattle.tree.specs.Contracts.{Leaves}
 
@@ -62,7 +62,7 @@ empty-shown t held sound =
 
 module _ (t : Tree) (held : IsTree t) (right : t .summary ≡ summaryOf (t .words)) (s n : ℕ) (v : Bool) where
   abbrev left : Tree
-  left = treeOf (paintedWords (t .words) s n v) (summaryOf (paintedWords (t .words) s n v))
+  left = holding (paintedWords (t .words) s n v)
 
   left-fits : left .summary < 2 ^ 16
   unfolding summaryOf
@@ -89,7 +89,7 @@ module _ (t : Tree) (held : IsTree t) (right : t .summary ≡ summaryOf (t .word
   painted-tree =
       ap (treeOf (left .words)) (touched-right (t .words) (t .summary) s n v right)
       ∙ sym (treeView .same left left-sound left-held)
-      ∙ made-alike treeView _ _ (painted-slots (t .words) s n v (held .count-right))
+      ∙ made-alike treeView _ _ tt tt (painted-slots (t .words) s n v (held .count-right))
 
 -- ---- a judged call, carried out, is as its contract has it
 
@@ -106,7 +106,7 @@ carried judge kept words summary s n v left updated e f =
     ap₂ treeOf e (f ∙ ap (λ (ws : List ℕ). touchedSummary ws summary s n) e) ∙ sym (left-accepted judge kept words summary s n v)
 
 -- where something is said that is no refusal, the tree is sound
-accepted-sound : (t : Tree) (call : Call Reply) (reply : Reply) → answered treeView t call ≡ value reply → treeView .isSound t ≡ true
+accepted-sound : (t : Tree) (call : Call Slots Reply) (reply : Reply) → answered treeView t call ≡ value reply → treeView .isSound t ≡ true
 unfolding answered
 accepted-sound t call reply said = not-false _ (judged-checked 1 _ (call .checks) (call .answer) reply said .0)
 
@@ -121,7 +121,7 @@ take-paints t n a start told =
 pub with-map : (judge : Answer) (left map : Tree) → left ≡ map → _≡_ {A = Changed} (record { answer = judge; map = left }) (record { answer = judge; map = map })
 with-map judge left map e = ap (λ (t : Tree). record { answer = judge; map = t }) e
 
-module _ (t : Tree) (call : Call Reply) (r : Changed) where
+module _ (t : Tree) (call : Call Slots Reply) (r : Changed) where
   pub refusing : (why : Refusal) → r ≡ record { answer = Refused why; map = t } → answered treeView t call ≡ refused (numberOf why) → Leaves t call r
   refusing why e said = ap (λ (out : Changed). (answerSays (out .answer), out .map)) e ∙ sym (says-refused treeView t call (numberOf why) said)
 

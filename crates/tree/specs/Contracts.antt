@@ -7,16 +7,15 @@ use Rattle.answers.specs.Answers.{Reply, answerSays, nextFreeSays, truthSays, n
 use Rattle.answers.specs.declared.NextFree.{NextFree}
 use Rattle.answers.specs.declared.Truth.{Truth}
 use Rattle.answers.specs.declared.Number.{Number}
-use Rattle.slots.specs.Sets.{none, all}
+use Rattle.slots.specs.Sets.{Slots, none, all}
 use Rattle.slots.specs.Calls.{Call, takeCall, claimCall, freeCall, setCall, nextFreeCall, getCall, emptyCall, usedCall, capacity}
 use Rattle.slots.specs.View.{answered, changed}
-use Rattle.layout.specs.Sixteen.{summaryOf}
 use Rattle.tree.specs.declared.Tree.{Tree}
 use Rattle.tree.specs.declared.Changed.{Changed}
-use Rattle.tree.specs.Layout.{treeOf, slotOf, ofSlots, treeView}
+use Rattle.tree.specs.Layout.{treeOf, holding, slotOf, ofSlots, treeView}
 
 -- the answer and the map, as the meaning has them
-abbrev pub Leaves : Tree → Call Reply → Changed → Type 0
+abbrev pub Leaves : Tree → Call Slots Reply → Changed → Type 0
 Leaves t call r = (answerSays (r .answer), r .map) ≡ changed treeView t call
 
 abbrev pub NewEmptySays : Tree → Type 0
@@ -25,9 +24,8 @@ NewEmptySays r = r ≡ ofSlots none
 abbrev pub NewFullSays : Tree → Type 0
 NewFullSays r = r ≡ ofSlots all
 
--- the words under the summary that is theirs
 abbrev pub HoldingSays : List ℕ → Tree → Type 0
-HoldingSays words r = r ≡ treeOf words (summaryOf words)
+HoldingSays words r = r ≡ holding words
 
 -- the same words under another summary; what every tree lets be read
 abbrev pub WithSummarySays : Tree → ℕ → Tree → Type 0

@@ -14,29 +14,30 @@ use Rattle.answers.specs.declared.Number.{Number}
 use Rattle.answers.specs.declared.Truth.{Truth}
 use Rattle.bits.specs.Digits.{number, number-lt}
 use Rattle.bits.specs.Range.{count}
-use Rattle.slots.specs.Sets.{none, all, painted, AllFree, AllUsed}
-use Rattle.slots.specs.Lowest.{LowestFit, NoStart, lowest}
+use Rattle.slots.specs.Sets.{Slots, none, all, painted, AllFree, AllUsed}
+use Rattle.slots.specs.Lowest.{LowestFit, NoStart, lowest, freeFrom}
 use Rattle.slots.specs.Calls.{Call, says, leaves, takeCall, getCall, emptyCall, usedCall, nextFreeCall, claimCall, freeCall, setCall}
 use Rattle.slots.specs.Promises as Promises
 use Rattle.slots.specs.Promises.{InRange, RefusedBy}
 use Rattle.slots.specs.Records.{Entry}
 use Rattle.slots.specs.Series as Series
-use Rattle.slots.specs.Series.{Asked, callOf, forward, AllDone, answersOf, mapsOf, lastOf, recordOf, beforeOf}
-use Rattle.slots.specs.View.{answered, changed-says, changed-refused, changed-sound, changed-map, answered-decided, sound-answers, sound-changes}
+use Rattle.slots.specs.Plain.{Asked, callOf}
+use Rattle.slots.specs.Series.{forward, AllDone, answersOf, mapsOf, lastOf, recordOf, beforeOf}
+use Rattle.slots.specs.View.{OnlyNamed, painted-map, answered, changed-says, changed-refused, changed-sound, changed-map, answered-decided, sound-answers, sound-changes}
 use Rattle.layout.specs.Painting.{slotIn}
 use Rattle.layout.specs.Sixteen.{usedWord, summaryOf, sound-by-summary}
 use Rattle.tree.specs.declared.Tree.{Tree}
 use Rattle.tree.specs.declared.Changed.{Changed}
-use Rattle.tree.specs.Layout.{treeOf, parted, slotOf, ofSlots, Sound, IsTree, treeView}
+use Rattle.tree.specs.Layout.{holding, parted, slotOf, ofSlots, Sound, IsTree, treeView, treeCalls}
 use Rattle.tree.specs.Contracts.{Leaves, NewEmptySays, NewFullSays, HoldingSays, WithSummarySays, WordsSays, SummarySays, TakeSays, ClaimSays, FreeSays, SetSays, NextFreeSays, GetSays, EmptySays, UsedSays, CapacitySays}
 
 -- ---- sound trees
 
 pub empty-is-sound : (r : Tree) → NewEmptySays r → Sound r
-empty-is-sound r e = rw e (treeView .made-sound none)
+empty-is-sound r e = rw e (treeView .made-sound none tt)
 
 pub full-is-sound : (r : Tree) → NewFullSays r → Sound r
-full-is-sound r e = rw e (treeView .made-sound all)
+full-is-sound r e = rw e (treeView .made-sound all tt)
 
 -- the full summary is 65,535
 pub full-summary : (r : Tree) → NewFullSays r → r .summary ≡ 65535
@@ -46,7 +47,7 @@ full-summary r e = ap (λ (t : Tree). t .summary) e
 -- a tree made of words is sound, and holds their slots
 pub holding-is-sound : (words : List ℕ) (r : Tree) → HoldingSays words r → Sound r
 unfolding summaryOf
-holding-is-sound words r e = rw e (sound-by-summary (parted (treeOf words (summaryOf words))) (number-lt (usedWord words) 16) .1 refl)
+holding-is-sound words r e = rw e (sound-by-summary (parted (holding words)) (number-lt (usedWord words) 16) .1 refl)
 
 pub holding-holds : (words : List ℕ) (r : Tree) → HoldingSays words r → (i : ℕ) → slotOf r i ≡ slotIn words i
 holding-holds words r e i = ap (λ (t : Tree). slotOf t i) e
@@ -57,7 +58,7 @@ made-of-its-slots t = treeView .same t
 
 -- ---- for every call that changes the map, whatever it is asked
 
-module _ (t : Tree) (call : Call Reply) (r : Changed) (outcome : Leaves t call r) where
+module _ (t : Tree) (call : Call Slots Reply) (r : Changed) (outcome : Leaves t call r) where
   answer-is : answerSays (r .answer) ≡ answered treeView t call
   answer-is = ap (λ out. out .0) outcome ∙ changed-says treeView t call
 
@@ -70,7 +71,7 @@ module _ (t : Tree) (call : Call Reply) (r : Changed) (outcome : Leaves t call r
 
   -- a sound tree stays sound, and a value of its type
   pub stays-sound : Sound t → Sound (r .map)
-  stays-sound sound = rw (ap (λ out. out .1) outcome) (changed-sound treeView t call sound)
+  stays-sound sound = rw (ap (λ out. out .1) outcome) (changed-sound treeView t call sound (λ a said. tt))
 
   pub stays-a-tree : IsTree t → IsTree (r .map)
   stays-a-tree held = rw (ap (λ out. out .1) outcome) (changed-map treeView t call held)
@@ -110,8 +111,8 @@ module _ (t : Tree) where
   set-decided s n used r outcome = decided t _ r outcome _ (Promises.set-refused 10 (slotOf t) s n used)
 
   pub next-free-decided : (s : ℕ) (r : NextFree) → NextFreeSays t s r
-      → FaultsDecide (nextFreeSays r) (Promises.slotFrom 10 (slotOf t) s) ((1 if (Sound t → ⊥)) ∷ Promises.nextFreeFaults 10 (slotOf t) s)
-  unfolding nextFreeCall Promises.slotFrom
+      → FaultsDecide (nextFreeSays r) (freeFrom 10 (slotOf t) s) ((1 if (Sound t → ⊥)) ∷ Promises.nextFreeFaults 10 (slotOf t) s)
+  unfolding nextFreeCall
   next-free-decided s r outcome = rw outcome (answered-decided treeView t _ _ (Promises.next-free-refused 10 (slotOf t) s))
 
   pub get-decided : (i : ℕ) (r : Truth) → GetSays t i r → FaultsDecide (truthSays r) (slotOf t i) ((1 if (Sound t → ⊥)) ∷ Promises.getFaults 10 i)
@@ -139,6 +140,11 @@ module _ (t : Tree) (sound : Sound t) where
       leaves-after t _ r outcome sound held (at o) said
       ∙ ap ofSlots (Promises.take-after 10 (slotOf t) n a o (sym (answers-as-the-set t _ r outcome sound) ∙ said))
 
+  -- slot by slot: those of the run are used, and the others are as they were
+  pub take-marks-only : IsTree t → (n a : ℕ) (r : Changed) → TakeSays t n a r → (o : ℕ) → answerSays (r .answer) ≡ value (at o)
+      → (i : ℕ) → i < 1024 → OnlyNamed (slotOf t) o n true (slotOf (r .map)) i
+  take-marks-only held n a r outcome o said = painted-map treeView t (r .map) o n true (take-marks held n a r outcome o said)
+
   -- with numbers that pass it is refused for room exactly when there is no such run
   pub take-refused-for-room : (n a : ℕ) (r : Changed) → TakeSays t n a r → 0 < n → a < 10 → n ≤ 1024
       → (answerSays (r .answer) ≡ refused 7) ↔ NoStart 10 (slotOf t) n a
@@ -151,12 +157,20 @@ module _ (t : Tree) (sound : Sound t) where
   pub claim-marks : IsTree t → (s n : ℕ) (r : Changed) → ClaimSays t s n r → answerSays (r .answer) ≡ value ok → r .map ≡ ofSlots (painted (slotOf t) s n true)
   claim-marks held s n r outcome said = leaves-after t _ r outcome sound held ok said ∙ ap ofSlots (Promises.claim-after 10 (slotOf t) s n)
 
+  pub claim-marks-only : IsTree t → (s n : ℕ) (r : Changed) → ClaimSays t s n r → answerSays (r .answer) ≡ value ok
+      → (i : ℕ) → i < 1024 → OnlyNamed (slotOf t) s n true (slotOf (r .map)) i
+  claim-marks-only held s n r outcome said = painted-map treeView t (r .map) s n true (claim-marks held s n r outcome said)
+
   -- free: the named slots, all used, become free
   pub free-accepts : (s n : ℕ) (r : Changed) → FreeSays t s n r → (answerSays (r .answer) ≡ value ok) ↔ (InRange 10 s n × AllUsed (slotOf t) s n)
   free-accepts s n r outcome = rw (answers-as-the-set t _ r outcome sound) (Promises.free-promise 10 (slotOf t) s n)
 
   pub free-clears : IsTree t → (s n : ℕ) (r : Changed) → FreeSays t s n r → answerSays (r .answer) ≡ value ok → r .map ≡ ofSlots (painted (slotOf t) s n false)
   free-clears held s n r outcome said = leaves-after t _ r outcome sound held ok said ∙ ap ofSlots (Promises.free-after 10 (slotOf t) s n)
+
+  pub free-clears-only : IsTree t → (s n : ℕ) (r : Changed) → FreeSays t s n r → answerSays (r .answer) ≡ value ok
+      → (i : ℕ) → i < 1024 → OnlyNamed (slotOf t) s n false (slotOf (r .map)) i
+  free-clears-only held s n r outcome said = painted-map treeView t (r .map) s n false (free-clears held s n r outcome said)
 
   -- set: each named slot gets the value, whatever it held
   pub set-accepts : (s n : ℕ) (used : Bool) (r : Changed) → SetSays t s n used r → (answerSays (r .answer) ≡ value ok) ↔ InRange 10 s n
@@ -165,6 +179,10 @@ module _ (t : Tree) (sound : Sound t) where
   pub set-paints : IsTree t → (s n : ℕ) (used : Bool) (r : Changed) → SetSays t s n used r → answerSays (r .answer) ≡ value ok
       → r .map ≡ ofSlots (painted (slotOf t) s n used)
   set-paints held s n used r outcome said = leaves-after t _ r outcome sound held ok said ∙ ap ofSlots (Promises.set-after 10 (slotOf t) s n used)
+
+  pub set-paints-only : IsTree t → (s n : ℕ) (used : Bool) (r : Changed) → SetSays t s n used r → answerSays (r .answer) ≡ value ok
+      → (i : ℕ) → i < 1024 → OnlyNamed (slotOf t) s n used (slotOf (r .map)) i
+  set-paints-only held s n used r outcome said = painted-map treeView t (r .map) s n used (set-paints held s n used r outcome said)
 
   -- the calls that only ask
   pub next-free-finds : (s : ℕ) (r : NextFree) → NextFreeSays t s r → (slot : ℕ) → (nextFreeSays r ≡ value slot) ↔ Promises.NextFree 10 (slotOf t) s slot
@@ -183,14 +201,14 @@ module _ (t : Tree) (sound : Sound t) where
 
 -- a series as it was run: each outcome is one that its call's contract allows, on the map that the one before left
 abbrev pub Ran : Tree → List Asked → List Changed → Type 0
-Ran = Series.Ran treeView Changed (λ r. answerSays (r .answer)) (λ r. r .map)
+Ran = Series.Ran treeView treeCalls Changed (λ r. answerSays (r .answer)) (λ r. r .map)
 
 -- so its answers and its maps are those of the series, of which the rest speaks
-pub ran-answers : (m : Tree) (cs : List Asked) (rs : List Changed) → Ran m cs rs → map (λ r. answerSays (r .answer)) rs ≡ answersOf treeView m cs
-ran-answers = Series.ran-answers treeView Changed (λ r. answerSays (r .answer)) (λ r. r .map)
+pub ran-answers : (m : Tree) (cs : List Asked) (rs : List Changed) → Ran m cs rs → map (λ r. answerSays (r .answer)) rs ≡ answersOf treeView treeCalls m cs
+ran-answers = Series.ran-answers treeView treeCalls Changed (λ r. answerSays (r .answer)) (λ r. r .map)
 
-pub ran-maps : (m : Tree) (cs : List Asked) (rs : List Changed) → Ran m cs rs → map (λ r. r .map) rs ≡ mapsOf treeView m cs
-ran-maps = Series.ran-maps treeView Changed (λ r. answerSays (r .answer)) (λ r. r .map)
+pub ran-maps : (m : Tree) (cs : List Asked) (rs : List Changed) → Ran m cs rs → map (λ r. r .map) rs ≡ mapsOf treeView treeCalls m cs
+ran-maps = Series.ran-maps treeView treeCalls Changed (λ r. answerSays (r .answer)) (λ r. r .map)
 
 -- a call by its contract is such an outcome
 pub a-call-runs : (m : Tree) (c : Asked) (r : Changed) → Leaves m (callOf 10 (slotOf m) c) r → Ran m (c ∷ []) (r ∷ [])
@@ -199,16 +217,16 @@ a-call-runs m c r outcome = (outcome, tt)
 module _ (m : Tree) (sound : Sound m) (held : IsTree m) (cs : List Asked) where
   -- walk the record backward from the last map, freeing what was taken or claimed and claiming what was freed: each step is accepted and restores the map
   -- that stood before it, word and summary, back to the first
-  pub walked-back : Series.Back treeView (lastOf treeView m cs) (recordOf treeView m cs) (beforeOf treeView m cs) m
-  walked-back = Series.walked-back treeView m sound held cs
+  pub walked-back : Series.Back treeView treeCalls (lastOf treeView treeCalls m cs) (recordOf treeView treeCalls m cs) (beforeOf treeView treeCalls m cs) m
+  walked-back = Series.walked-back treeView treeCalls m sound held cs
 
   -- the record replayed from the first map, a take standing as a claim of its run, is accepted throughout and ends in the last map
-  pub replayed : Series.Forth treeView m (recordOf treeView m cs) (lastOf treeView m cs)
-  replayed = Series.replayed treeView m sound held cs
+  pub replayed : Series.Forth treeView treeCalls m (recordOf treeView treeCalls m cs) (lastOf treeView treeCalls m cs)
+  replayed = Series.replayed treeView treeCalls m sound held cs
 
   -- and the same entries in any other order from the same first map end in the same map, if every one is accepted
-  pub in-any-order : (es : List Entry) → Perm es (recordOf treeView m cs) → AllDone (answersOf treeView m (forward es)) → lastOf treeView m (forward es) ≡ lastOf treeView m cs
-  in-any-order = Series.in-any-order treeView m sound held cs
+  pub in-any-order : (es : List Entry) → Perm es (recordOf treeView treeCalls m cs) → AllDone (answersOf treeView treeCalls m (forward treeView treeCalls es)) → lastOf treeView treeCalls m (forward treeView treeCalls es) ≡ lastOf treeView treeCalls m cs
+  in-any-order = Series.in-any-order treeView treeCalls m sound held cs
 
 -- ---- one answer: any two outcomes that a contract allows coincide
 
@@ -231,7 +249,7 @@ pub summary-one-answer : (t : Tree) (r q : ℕ) → SummarySays t r → SummaryS
 summary-one-answer t r q p o = p ∙ sym o
 
 -- of a call that changes the map: the answer and the map
-changed-one-answer : (t : Tree) (call : Call Reply) (r q : Changed) → Leaves t call r → Leaves t call q → r ≡ q
+changed-one-answer : (t : Tree) (call : Call Slots Reply) (r q : Changed) → Leaves t call r → Leaves t call q → r ≡ q
 changed-one-answer t call r q p o = λ i. record {
   answer = answer-says-injective (r .answer) (q .answer) (ap (λ out. out .0) (p ∙ sym o)) i;
   map = ap (λ out. out .1) (p ∙ sym o) i;

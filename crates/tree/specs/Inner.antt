@@ -9,7 +9,8 @@ use Rattle.answers.specs.declared.Answer.{Answer}
 use Rattle.answers.specs.declared.Answer.the-variants.{At, Done, Refused}
 use Rattle.answers.specs.declared.NextFree.{NextFree}
 use Rattle.slots.specs.Lowest.{lowest}
-use Rattle.slots.specs.Tries.{slotOrNone, freeFrom}
+use Rattle.slots.specs.Lowest.{freeFrom}
+use Rattle.slots.specs.Tries.{slotOrNone}
 use Rattle.slots.specs.Calls.{rangeChecks, takeCall, claimCall, freeCall}
 use Rattle.slots.specs.View.{answered}
 use Rattle.layout.specs.Painting.{slotIn, paintedWords}

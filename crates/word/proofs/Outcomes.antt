@@ -15,7 +15,7 @@ use Rattle.answers.specs.declared.Answer.{Answer}
 use Rattle.answers.specs.declared.Answer.the-variants.{At, Done, Refused}
 use Rattle.bits.specs.Digits.{digit}
 use Rattle.one_word.specs.OneWord.{runMask, freeIn, usedIn, paintedIn, free-run, used-run, painted-run}
-use Rattle.slots.specs.Sets.{allFree, allUsed, painted}
+use Rattle.slots.specs.Sets.{Slots, allFree, allUsed, painted}
 use Rattle.slots.specs.Calls.{Call, says, rangeChecks}
 use Rattle.slots.proofs.Ways.{range-accepted}
 use Rattle.slots.specs.View.{sound-refused, sound-accepted}
@@ -47,7 +47,7 @@ left-accepted (At o) kept bits mask painted v e = ap (λ (b : ℕ). record { ans
 left-accepted Done kept bits mask painted v e = ap (λ (b : ℕ). record { answer = Done; map = record { bits = b } }) e
 left-accepted (Refused why) kept bits mask painted v e = absurd (value≢refused _ _ (sym (not-refused (Refused why) kept .1)))
 
-module _ (w : Word) (call : Call Reply) (r : Changed) where
+module _ (w : Word) (call : Call Slots Reply) (r : Changed) where
   pub refusing : (why : Refusal) → r ≡ record { answer = Refused why; map = w } → says call ≡ refused (numberOf why) → Leaves w call r
   refusing why e said = ap (λ (out : Changed). (answerSays (out .answer), out .map)) e ∙ sym (sound-refused wordView w call (numberOf why) tt said)
 

@@ -6,7 +6,7 @@ use Rattle.answers.specs.Said.{value, value-injective}
 use Rattle.answers.specs.Answers.{Reply, answerSays, nextFreeSays, truthSays, answer-says-injective, next-free-says-injective, truth-says-injective}
 use Rattle.answers.specs.declared.NextFree.{NextFree}
 use Rattle.answers.specs.declared.Truth.{Truth}
-use Rattle.slots.specs.Sets.{none, all}
+use Rattle.slots.specs.Sets.{Slots, none, all}
 use Rattle.slots.specs.Calls.{Call, takeCall, claimCall, freeCall, setCall, nextFreeCall, getCall, emptyCall, usedCall, capacity}
 use Rattle.slots.specs.View.{answered, changed}
 use Rattle.word.specs.declared.Word.{Word}
@@ -14,7 +14,7 @@ use Rattle.word.specs.declared.Changed.{Changed}
 use Rattle.word.specs.Layout.{wordOf, slotOf, ofSlots, wordView}
 
 -- the answer and the map, as the meaning has them
-abbrev pub Leaves : Word → Call Reply → Changed → Type 0
+abbrev pub Leaves : Word → Call Slots Reply → Changed → Type 0
 Leaves w call r = (answerSays (r .answer), r .map) ≡ changed wordView w call
 
 abbrev pub NewEmptySays : Word → Type 0
@@ -73,7 +73,7 @@ pub new-full-one-answer : (r q : Word) → NewFullSays r → NewFullSays q → r
 new-full-one-answer r q p o = p ∙ sym o
 
 -- of a call that changes the map: the answer and the map
-changed-one-answer : (w : Word) (call : Call Reply) (r q : Changed) → Leaves w call r → Leaves w call q → r ≡ q
+changed-one-answer : (w : Word) (call : Call Slots Reply) (r q : Changed) → Leaves w call r → Leaves w call q → r ≡ q
 changed-one-answer w call r q p o = λ i. record {
   answer = answer-says-injective (r .answer) (q .answer) (ap (λ out. out .0) (p ∙ sym o)) i;
   map = ap (λ out. out .1) (p ∙ sym o) i;

@@ -12,22 +12,23 @@ use Rattle.answers.specs.Answers.{Reply, at, ok, answerSays, nextFreeSays, trut
 use Rattle.answers.specs.declared.NextFree.{NextFree}
 use Rattle.answers.specs.declared.Truth.{Truth}
 use Rattle.bits.specs.Range.{count}
-use Rattle.slots.specs.Sets.{painted}
-use Rattle.slots.specs.Lowest.{LowestFit, NoStart, lowest}
+use Rattle.slots.specs.Sets.{Slots, painted}
+use Rattle.slots.specs.Lowest.{LowestFit, NoStart, lowest, freeFrom}
 use Rattle.slots.specs.Calls.{Call, says, leaves}
 use Rattle.slots.specs.Promises as Promises
 use Rattle.slots.specs.Records.{Entry}
 use Rattle.slots.specs.Series as Series
-use Rattle.slots.specs.Series.{Asked, callOf, forward, AllDone, answersOf, mapsOf, lastOf, recordOf, beforeOf}
+use Rattle.slots.specs.Plain.{Asked, callOf}
+use Rattle.slots.specs.Series.{forward, AllDone, answersOf, mapsOf, lastOf, recordOf, beforeOf}
 use Rattle.slots.specs.View.{changed-says, changed-refused, sound-answers, sound-changes}
 use Rattle.word.specs.declared.Word.{Word}
 use Rattle.word.specs.declared.Changed.{Changed}
-use Rattle.word.specs.Layout.{slotOf, ofSlots, IsWord, wordView}
+use Rattle.word.specs.Layout.{slotOf, ofSlots, IsWord, wordView, wordCalls}
 use Rattle.word.specs.Contracts.{Leaves, TakeSays, ClaimSays, FreeSays, SetSays, NextFreeSays, GetSays, EmptySays, UsedSays}
 
 -- ---- for every call that changes the map
 
-module _ (w : Word) (call : Call Reply) (r : Changed) (outcome : Leaves w call r) where
+module _ (w : Word) (call : Call Slots Reply) (r : Changed) (outcome : Leaves w call r) where
   -- it answers as the set does
   pub answers-as-the-set : answerSays (r .answer) ≡ says call
   answers-as-the-set = ap (λ out. out .0) outcome ∙ changed-says wordView w call ∙ sound-answers wordView w call tt
@@ -57,7 +58,7 @@ module _ (w : Word) where
   set-decided s n used r outcome = rw (answers-as-the-set w _ r outcome) (Promises.set-decided 6 (slotOf w) s n used)
 
   pub next-free-decided : (s : ℕ) (r : NextFree) → NextFreeSays w s r
-      → FaultsDecide (nextFreeSays r) (Promises.slotFrom 6 (slotOf w) s) (Promises.nextFreeFaults 6 (slotOf w) s)
+      → FaultsDecide (nextFreeSays r) (freeFrom 6 (slotOf w) s) (Promises.nextFreeFaults 6 (slotOf w) s)
   next-free-decided s r outcome = rw (outcome ∙ sound-answers wordView w _ tt) (Promises.next-free-decided 6 (slotOf w) s)
 
   pub get-decided : (i : ℕ) (r : Truth) → GetSays w i r → FaultsDecide (truthSays r) (slotOf w i) (Promises.getFaults 6 i)
@@ -98,14 +99,14 @@ module _ (w : Word) where
 
 -- a series as it was run: each outcome is one that its call's contract allows, on the map that the one before left
 abbrev pub Ran : Word → List Asked → List Changed → Type 0
-Ran = Series.Ran wordView Changed (λ r. answerSays (r .answer)) (λ r. r .map)
+Ran = Series.Ran wordView wordCalls Changed (λ r. answerSays (r .answer)) (λ r. r .map)
 
 -- so its answers and its maps are those of the series, of which the rest speaks
-pub ran-answers : (m : Word) (cs : List Asked) (rs : List Changed) → Ran m cs rs → map (λ r. answerSays (r .answer)) rs ≡ answersOf wordView m cs
-ran-answers = Series.ran-answers wordView Changed (λ r. answerSays (r .answer)) (λ r. r .map)
+pub ran-answers : (m : Word) (cs : List Asked) (rs : List Changed) → Ran m cs rs → map (λ r. answerSays (r .answer)) rs ≡ answersOf wordView wordCalls m cs
+ran-answers = Series.ran-answers wordView wordCalls Changed (λ r. answerSays (r .answer)) (λ r. r .map)
 
-pub ran-maps : (m : Word) (cs : List Asked) (rs : List Changed) → Ran m cs rs → map (λ r. r .map) rs ≡ mapsOf wordView m cs
-ran-maps = Series.ran-maps wordView Changed (λ r. answerSays (r .answer)) (λ r. r .map)
+pub ran-maps : (m : Word) (cs : List Asked) (rs : List Changed) → Ran m cs rs → map (λ r. r .map) rs ≡ mapsOf wordView wordCalls m cs
+ran-maps = Series.ran-maps wordView wordCalls Changed (λ r. answerSays (r .answer)) (λ r. r .map)
 
 -- a call by its contract is such an outcome
 pub a-call-runs : (m : Word) (c : Asked) (r : Changed) → Leaves m (callOf 6 (slotOf m) c) r → Ran m (c ∷ []) (r ∷ [])
@@ -114,13 +115,13 @@ a-call-runs m c r outcome = (outcome, tt)
 module _ (m : Word) (held : IsWord m) (cs : List Asked) where
   -- walk the record backward from the last map, freeing what was taken or claimed and claiming what was freed: each step is accepted and restores the map
   -- that stood before it, back to the first
-  pub walked-back : Series.Back wordView (lastOf wordView m cs) (recordOf wordView m cs) (beforeOf wordView m cs) m
-  walked-back = Series.walked-back wordView m tt held cs
+  pub walked-back : Series.Back wordView wordCalls (lastOf wordView wordCalls m cs) (recordOf wordView wordCalls m cs) (beforeOf wordView wordCalls m cs) m
+  walked-back = Series.walked-back wordView wordCalls m tt held cs
 
   -- the record replayed from the first map, a take standing as a claim of its run, is accepted throughout and ends in the last map
-  pub replayed : Series.Forth wordView m (recordOf wordView m cs) (lastOf wordView m cs)
-  replayed = Series.replayed wordView m tt held cs
+  pub replayed : Series.Forth wordView wordCalls m (recordOf wordView wordCalls m cs) (lastOf wordView wordCalls m cs)
+  replayed = Series.replayed wordView wordCalls m tt held cs
 
   -- and the same entries in any other order from the same first map end in the same map, if every one is accepted
-  pub in-any-order : (es : List Entry) → Perm es (recordOf wordView m cs) → AllDone (answersOf wordView m (forward es)) → lastOf wordView m (forward es) ≡ lastOf wordView m cs
-  in-any-order = Series.in-any-order wordView m tt held cs
+  pub in-any-order : (es : List Entry) → Perm es (recordOf wordView wordCalls m cs) → AllDone (answersOf wordView wordCalls m (forward wordView wordCalls es)) → lastOf wordView wordCalls m (forward wordView wordCalls es) ≡ lastOf wordView wordCalls m cs
+  in-any-order = Series.in-any-order wordView wordCalls m tt held cs

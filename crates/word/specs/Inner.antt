@@ -10,7 +10,8 @@ use Rattle.answers.specs.declared.NextFree.{NextFree}
 use Rattle.bits.specs.Digits.{digit}
 use Rattle.one_word.specs.OneWord.{paintedIn}
 use Rattle.slots.specs.Lowest.{lowest}
-use Rattle.slots.specs.Tries.{slotOrNone, freeFrom}
+use Rattle.slots.specs.Lowest.{freeFrom}
+use Rattle.slots.specs.Tries.{slotOrNone}
 use Rattle.slots.specs.Calls.{says, rangeChecks, takeCall, claimCall, freeCall}
 use Rattle.word.specs.declared.Word.{Word}
 use Rattle.word.specs.declared.Changed.{Changed}

@@ -5,7 +5,7 @@ use native.Mathlib.Nat.{min-eq-left, min-eq-right, sub-eq-zero-of-le, le-of-lt}
 use native.Mathlib.Omega.{arith}
 use borrow.Author.Needs.{needs}
 use Rattle.bits.specs.Range.{least}
-use Rattle.slots.specs.Tries.{freeFrom}
+use Rattle.slots.specs.Lowest.{freeFrom}
 use Rattle.one_word.proofs.Places.{first-by-zeros}
 use Rattle.one_word.proofs.first_free.Statement.{statement}
 use Rattle.one_word.proofs.first_free.Tie as tie

@@ -1,7 +1,7 @@
 -- `runner::carried_out` meets its contract: a call as the tree answers it, and any other field by its line. Assumes nothing.
 use mathlib.Core.Path.{_≡_, sym, ap, _∙_}
 use lib.ListN.{take}
-use Rattle.slots.specs.Series.{Asked, callOf}
+use Rattle.slots.specs.Plain.{Asked, callOf}
 use Rattle.tree.specs.declared.Tree.{Tree}
 use Rattle.tree.specs.declared.Changed.{Changed}
 use Rattle.tree.specs.Layout.{slotOf}
