@@ -257,6 +257,11 @@ def constructors(lines):
     return [name for line in inner if " : " in line for name in line.split(" : ")[0].split()]
 
 
+def parts(one):
+    """The names of a record's parts, which stand behind the record's name: `outcome .answer`."""
+    return [name for name in constructors(one.lines) if name != "pub"] if one.form == "record" else []
+
+
 def antt_declaration(path, lines, start, end, sections):
     begun, own = beginning(lines[start]), lines[start:end]
     form = form_of(begun)

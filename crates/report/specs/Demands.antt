@@ -17,10 +17,9 @@ use Rattle.bits.specs.Range.{either}
 use Rattle.slots.specs.Sets.{none}
 use Rattle.slots.specs.Calls.{usedCall}
 use Rattle.slots.specs.Plain.{Asked}
-use Rattle.slots.specs.Series.{made, answersOf, lastOf, recordOf, beforeOf, Back}
+use Rattle.slots.specs.Series.{made, answersOf, lastOf, recordOf, beforeOf, Back, walked-back}
 use Rattle.tree.specs.declared.Tree.{Tree}
 use Rattle.tree.specs.Layout.{treeView, slotOf, treeCalls}
-use Rattle.tree.specs.Demands.{walked-back}
 use Rattle.report.specs.Fields.{Field, call, skip, bad, cut, fields}
 use Rattle.report.specs.Report.{Line, said, skipped, stopped, short, used, carried, linesOf, emptyTree, reportOf, over, ran, RunSays, outputOf, output-big, output-report, OutputSays}
 use Rattle.report.specs.Limits.{report-fits}
@@ -145,4 +144,4 @@ module _ (bytes : List ℕ) where
   run-walked-back =
       subst (λ (last : Tree). Back treeView treeCalls last (recordOf treeView treeCalls emptyTree asked) (beforeOf treeView treeCalls emptyTree asked) emptyTree)
       (sym (left-last emptyTree (fields bytes)))
-      (walked-back emptyTree (treeView .made-sound none tt) (treeView .made-map none) asked)
+      (walked-back treeView treeCalls emptyTree (treeView .made-sound none tt) (treeView .made-map none) asked)

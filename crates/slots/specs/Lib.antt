@@ -10,6 +10,7 @@ pub mod View
 pub mod Family
 pub mod Plain
 pub mod Series
+pub mod Demands
 pub mod Layouts
 pub mod Readings
 pub mod Lesson

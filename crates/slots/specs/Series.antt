@@ -70,30 +70,6 @@ module _ {K : Kind} (L : View K) (F : Family K (L .k)) where
   beforeOf m [] = []
   beforeOf m (c ∷ cs) = kept m (made m c .0) (beforeOf (made m c .1) cs)
 
-  -- ---- a series as it was run: each outcome says and leaves what its call does on the map that the one before left
-
-  module _ (Out : Type 0) (said : Out → Said Reply) (left : Out → L .Map) where
-    abbrev pub Ran : L .Map → List Asked → List Out → Type 0
-    Ran m [] [] = Unit {0}
-    Ran m [] (r ∷ rs) = ⊥
-    Ran m (c ∷ cs) [] = ⊥
-    Ran m (c ∷ cs) (r ∷ rs) = _≡_ {A = Said Reply × L .Map} (said r, left r) (made m c) × Ran (left r) cs rs
-
-    -- so its answers and its maps are those of the series
-    pub ran-answers : (m : L .Map) (cs : List Asked) (rs : List Out) → Ran m cs rs → map said rs ≡ answersOf m cs
-    ran-answers m [] [] ran = refl
-    ran-answers m [] (r ∷ rs) ran = absurd ran
-    ran-answers m (c ∷ cs) [] ran = absurd ran
-    ran-answers m (c ∷ cs) (r ∷ rs) ran =
-        λ i. ran .0 i .0 ∷ (ran-answers (left r) cs rs (ran .1) ∙ ap (λ (next : L .Map). answersOf next cs) (ap (λ out. out .1) (ran .0))) i
-
-    pub ran-maps : (m : L .Map) (cs : List Asked) (rs : List Out) → Ran m cs rs → map left rs ≡ mapsOf m cs
-    ran-maps m [] [] ran = refl
-    ran-maps m [] (r ∷ rs) ran = absurd ran
-    ran-maps m (c ∷ cs) [] ran = absurd ran
-    ran-maps m (c ∷ cs) (r ∷ rs) ran =
-        λ i. ran .0 i .1 ∷ (ran-maps (left r) cs rs (ran .1) ∙ ap (λ (next : L .Map). mapsOf next cs) (ap (λ out. out .1) (ran .0))) i
-
   -- ---- two series, one after the other
 
   answers-then : (m : L .Map) (cs ds : List Asked) → answersOf m (cs ++ ds) ≡ answersOf m cs ++ answersOf (lastOf m cs) ds
@@ -294,3 +270,107 @@ module _ {K : Kind} (L : View K) (F : Family K (L .k)) where
         same-state L (lastOf m (forward es)) (lastOf m (forward (recordOf m cs))) (one .sound) (one .held) (other .sound) (other .held)
         (λ p l. ap (λ Y. Y p) (once .1) ∙ any-order K (L .stateOf m) es (recordOf m cs) same (once .0) (first .0) p ∙ sym (ap (λ Y. Y p) (first .1)))
         ∙ replayed .ends
+
+  -- ---- demand 3 of outcomes: the caller makes the calls, has what they say and leave, and makes the calls of the record, all by the contracts
+
+  module _ (Out : Type 0) (said : Out → Said Reply) (left : Out → L .Map) where
+    -- a series as it was run: each outcome says and leaves what its call does on the map that the one before left
+    abbrev pub Ran : L .Map → List Asked → List Out → Type 0
+    Ran m [] [] = Unit {0}
+    Ran m [] (r ∷ rs) = ⊥
+    Ran m (c ∷ cs) [] = ⊥
+    Ran m (c ∷ cs) (r ∷ rs) = _≡_ {A = Said Reply × L .Map} (said r, left r) (made m c) × Ran (left r) cs rs
+
+    -- so its answers and its maps are those of the series
+    pub ran-answers : (m : L .Map) (cs : List Asked) (rs : List Out) → Ran m cs rs → map said rs ≡ answersOf m cs
+    ran-answers m [] [] ran = refl
+    ran-answers m [] (r ∷ rs) ran = absurd ran
+    ran-answers m (c ∷ cs) [] ran = absurd ran
+    ran-answers m (c ∷ cs) (r ∷ rs) ran =
+        λ i. ran .0 i .0 ∷ (ran-answers (left r) cs rs (ran .1) ∙ ap (λ (next : L .Map). answersOf next cs) (ap (λ out. out .1) (ran .0))) i
+
+    pub ran-maps : (m : L .Map) (cs : List Asked) (rs : List Out) → Ran m cs rs → map left rs ≡ mapsOf m cs
+    ran-maps m [] [] ran = refl
+    ran-maps m [] (r ∷ rs) ran = absurd ran
+    ran-maps m (c ∷ cs) [] ran = absurd ran
+    ran-maps m (c ∷ cs) (r ∷ rs) ran =
+        λ i. ran .0 i .1 ∷ (ran-maps (left r) cs rs (ran .1) ∙ ap (λ (next : L .Map). mapsOf next cs) (ap (λ out. out .1) (ran .0))) i
+
+    -- what the caller has: the record, written down from the answers; the map that the last outcome left; the maps that stood before each accepted call
+    abbrev pub recordRan : List Asked → List Out → List Entry
+    recordRan [] rs = []
+    recordRan (c ∷ cs) [] = []
+    recordRan (c ∷ cs) (r ∷ rs) = written c (said r) (recordRan cs rs)
+
+    abbrev pub lastRan : L .Map → List Out → L .Map
+    lastRan m [] = m
+    lastRan m (r ∷ rs) = lastRan (left r) rs
+
+    abbrev pub beforeRan : L .Map → List Out → List (L .Map)
+    beforeRan m [] = []
+    beforeRan m (r ∷ rs) = kept m (said r) (beforeRan (left r) rs)
+
+    -- each is that of the series
+    ran-record : (m : L .Map) (cs : List Asked) (rs : List Out) → Ran m cs rs → recordRan cs rs ≡ recordOf m cs
+    ran-record m [] [] ran = refl
+    ran-record m [] (r ∷ rs) ran = absurd ran
+    ran-record m (c ∷ cs) [] ran = absurd ran
+    ran-record m (c ∷ cs) (r ∷ rs) ran =
+        ap (written c (said r)) (ran-record (left r) cs rs (ran .1)) ∙ (λ i. written c (ran .0 i .0) (recordOf (ran .0 i .1) cs))
+
+    ran-last : (m : L .Map) (cs : List Asked) (rs : List Out) → Ran m cs rs → lastRan m rs ≡ lastOf m cs
+    ran-last m [] [] ran = refl
+    ran-last m [] (r ∷ rs) ran = absurd ran
+    ran-last m (c ∷ cs) [] ran = absurd ran
+    ran-last m (c ∷ cs) (r ∷ rs) ran = ran-last (left r) cs rs (ran .1) ∙ (λ i. lastOf (ran .0 i .1) cs)
+
+    ran-before : (m : L .Map) (cs : List Asked) (rs : List Out) → Ran m cs rs → beforeRan m rs ≡ beforeOf m cs
+    ran-before m [] [] ran = refl
+    ran-before m [] (r ∷ rs) ran = absurd ran
+    ran-before m (c ∷ cs) [] ran = absurd ran
+    ran-before m (c ∷ cs) (r ∷ rs) ran =
+        ap (kept m (said r)) (ran-before (left r) cs rs (ran .1)) ∙ (λ i. kept m (ran .0 i .0) (beforeOf (ran .0 i .1) cs))
+
+    -- outcomes bs that undo the outcomes rs on m: every one accepts, they leave the maps that stood before each accepted call, from the last to the first,
+    -- and the last that is left is m
+    pub record BackRan (m : L .Map) (rs bs : List Out) : Type 0 where
+      pub accepted : AllDone (map said bs)
+      pub met : map left bs ≡ reverse (beforeRan m rs)
+      pub home : lastRan (lastRan m rs) bs ≡ m
+
+    module _ (m : L .Map) (sound : L .Sound m) (held : L .IsMap m) (cs : List Asked) (rs : List Out) (ran : Ran m cs rs) where
+      -- the record walked backward from the last map
+      pub ran-back : (bs : List Out) → Ran (lastRan m rs) (backward (recordRan cs rs)) bs → BackRan m rs bs
+      ran-back bs walked =
+          let first = ran-record m cs rs ran in
+          let last = ran-last m cs rs ran in
+          let calls = backward (recordRan cs rs) in
+          let end = lastRan m rs in
+          let back = walked-back m sound held cs in
+          record {
+            accepted = rw (ran-answers end calls bs walked, first, last) (back .accepted);
+            met = ran-maps end calls bs walked ∙ (λ i. mapsOf (last i) (backward (first i))) ∙ back .met
+                ∙ ap reverse (sym (ran-before m cs rs ran));
+            home = ran-last end calls bs walked ∙ (λ i. lastOf (last i) (backward (first i))) ∙ back .home;
+          }
+
+      -- the record replayed from the first map: every outcome accepts, and the map that is left at the end is the same
+      pub ran-again : (fs : List Out) → Ran m (forward (recordRan cs rs)) fs
+          → AllDone (map said fs) × (lastRan m fs ≡ lastRan m rs)
+      ran-again fs walked =
+          let first = ran-record m cs rs ran in
+          let calls = forward (recordRan cs rs) in
+          let again = replayed m sound held cs in (
+            rw (ran-answers m calls fs walked, first) (again .accepted),
+            ran-last m calls fs walked ∙ ap (λ (es : List Entry). lastOf m (forward es)) first ∙ again .ends
+                ∙ sym (ran-last m cs rs ran),
+          )
+
+      -- and its entries in any other order leave that map too, if every outcome accepts
+      pub ran-reordered : (es : List Entry) → Perm es (recordRan cs rs) → (fs : List Out) → Ran m (forward es) fs
+          → AllDone (map said fs) → lastRan m fs ≡ lastRan m rs
+      ran-reordered es same fs walked done =
+          ran-last m (forward es) fs walked
+          ∙ in-any-order m sound held cs es (subst (λ (x : List Entry). Perm es x) (ran-record m cs rs ran) same)
+          (subst AllDone (ran-answers m (forward es) fs walked) done)
+          ∙ sym (ran-last m cs rs ran)

@@ -11,8 +11,7 @@ use borrow.Author.Tests.{ltb-true, ltb-false}
 use Rattle.answers.specs.Said.{Said, value, refused, _when_, judged, leaving, leaving-says, leaving-refused, leaving-keeps}
 use Rattle.answers.specs.Faults.{Fault, _if_, FaultsDecide, faults-decide}
 use Rattle.bits.specs.Range.{either, same-test}
-use Rattle.slots.specs.Sets.{Slots, Named, painted, painted-named, painted-other}
-use Rattle.slots.specs.Kinds.{Kind, State, plain}
+use Rattle.slots.specs.Kinds.{Kind, State}
 use Rattle.slots.specs.Calls.{Call, says, leaves}
 use Rattle.slots.specs.Promises.{RefusedBy, accepted-leaves, refused-leaves}
 
@@ -143,14 +142,3 @@ module _ {K : Kind} (L : View K) where
         by-what-is-said (says c)
         (λ a e. sound-accepted a sound e ∙ (λ i. (sym e i, L .ofState (sym (accepted-leaves (L .stateOf m) c a e) i))))
         (λ r e. sound-refused r sound e ∙ (λ i. (sym e i, (sym (L .same m sound is-map) ∙ ap (L .ofState) (sym (refused-leaves (L .stateOf m) c r e))) i)))
-
--- ---- a map of slots that is painted, slot by slot: the named ones have the value, and the others are as they were
-
-abbrev pub OnlyNamed : Slots → ℕ → ℕ → Bool → Slots → ℕ → Type 0
-OnlyNamed before s n v left i = (Named s n i → left i ≡ v) × ((Named s n i → ⊥) → left i ≡ before i)
-
-pub painted-map : (L : View plain) (m left : L .Map) (s n : ℕ) (v : Bool) → left ≡ L .ofState (painted (L .stateOf m) s n v)
-    → (i : ℕ) → i < 2 ^ L .k → OnlyNamed (L .stateOf m) s n v (L .stateOf left) i
-painted-map L m left s n v e i inside =
-    let held : L .stateOf left i ≡ painted (L .stateOf m) s n v i = ap (λ (x : L .Map). L .stateOf x i) e ∙ L .holds _ i inside in
-    (λ named. held ∙ painted-named (L .stateOf m) s n v i named, λ other. held ∙ painted-other (L .stateOf m) s n v i other)
