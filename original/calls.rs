@@ -1,5 +1,5 @@
 //! A call: its name, its numbers and its map; what is answered; and the 152 bytes in which the program
-//! `calls` reads the one and writes the other.
+//! `compared_calls` reads the one and writes the other.
 
 use crate::map::Map;
 
@@ -184,7 +184,7 @@ pub struct Outcome {
 }
 
 impl Outcome {
-    /// Reads an answer of `calls`; every byte that has no use is 0.
+    /// Reads an answer of `compared_calls`; every byte that has no use is 0.
     pub fn read(bytes: &[u8]) -> Outcome {
         let number = |at: usize| u64::from_le_bytes(bytes[at..at + 8].try_into().unwrap());
         let answer = match (bytes[0], number(8)) {

@@ -1,6 +1,6 @@
 //! Compares the slot map with the original, call by call.
 //!
-//!     compare [--calls N] [--seed S] -- COMMAND [ARGUMENT..]     COMMAND runs the program `calls`
+//!     compare [--calls N] [--seed S] -- COMMAND [ARGUMENT..]     COMMAND runs `compared_calls`
 //!     compare [--seed S] --list                                  prints the stored list
 //!
 //! tests/compare-original builds it and runs it. The status is 1 where a difference is found, 2 where the
@@ -91,7 +91,7 @@ fn options() -> Result<Options, String> {
         }
     }
     if !options.list && options.command.is_empty() {
-        return Err("the command that runs `calls` is missing: -- COMMAND".into());
+        return Err("the command that runs `compared_calls` is missing: -- COMMAND".into());
     }
     Ok(options)
 }

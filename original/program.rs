@@ -1,4 +1,4 @@
-//! The program `calls`: it is started, given requests and asked for its answers.
+//! The program `compared_calls`: it is started, given requests and asked for its answers.
 
 use crate::calls::{Outcome, Request, SIZE};
 use std::io::{Read, Write};

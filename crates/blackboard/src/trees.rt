@@ -68,7 +68,7 @@ pub fn take_in_place(name: u8, map: Tree, n: usize, a: usize) {
         b" at a multiple of 2^",
         a as u64,
     );
-    left(in_place::take_lent(map, n, a));
+    left(in_place::take_in_copy(map, n, a));
 }
 
 pub fn claim(name: u8, map: Tree, start: usize, n: usize) {
@@ -85,7 +85,7 @@ pub fn free_in_place(name: u8, map: Tree, start: usize, n: usize) {
     names::put(name);
     show::text(b": free in place from ");
     asked::range(start, n);
-    left(in_place::free_lent(map, start, n));
+    left(in_place::free_in_copy(map, start, n));
 }
 
 pub fn set(name: u8, map: Tree, start: usize, n: usize, used: bool) {

@@ -31,7 +31,7 @@ pub fn free(map: &mut Tree, start: usize, n: usize) -> Answer
 
 // Takes in a copy of the map, in place, and hands the copy back. Refused as `Tree::take` is; then the
 // copy is the very map.
-pub fn take_lent(map: Tree, n: usize, a: usize) -> Changed
+pub fn take_in_copy(map: Tree, n: usize, a: usize) -> Changed
     ensures { λ r. ⌜ TakeSays map n a r ⌝ }
 {
     let mut taken = map;
@@ -41,7 +41,7 @@ pub fn take_lent(map: Tree, n: usize, a: usize) -> Changed
 
 // Frees in a copy of the map, in place, and hands the copy back. Refused as `Tree::free` is; then the
 // copy is the very map.
-pub fn free_lent(map: Tree, start: usize, n: usize) -> Changed
+pub fn free_in_copy(map: Tree, start: usize, n: usize) -> Changed
     ensures { λ r. ⌜ FreeSays map start n r ⌝ }
 {
     let mut freed = map;

@@ -50,7 +50,7 @@ pub extern "C" fn slots_takes_in_place(
     let mut map = Tree::holding(*words);
     let mut left = times;
     while left > 0 {
-        map = in_place::take_lent(map, n, a).map;
+        map = in_place::take_in_copy(map, n, a).map;
         left -= 1;
     }
     *words = map.words();
@@ -64,7 +64,7 @@ pub extern "C" fn slots_frees_in_place(words: &mut [u64; 16], starts: &[u64], n:
     let mut map = Tree::holding(*words);
     let mut i = 0;
     while i < starts.len() {
-        map = in_place::free_lent(map, starts[i] as usize, n).map;
+        map = in_place::free_in_copy(map, starts[i] as usize, n).map;
         i += 1;
     }
     *words = map.words();

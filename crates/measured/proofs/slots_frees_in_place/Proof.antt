@@ -19,14 +19,14 @@ holding-requires c κs = search needs
 loop-holds : tie.Need-loop-holds Inv-loop μ-loop
 loop-holds c = begins _ (c .holding .ensures)
 
-mul-free-lent : tie.Need-mul-free-lent Inv-loop μ-loop
-mul-free-lent c = search needs
+mul-free-in-copy : tie.Need-mul-free-in-copy Inv-loop μ-loop
+mul-free-in-copy c = search needs
 
-shared-slice-read-free-lent : tie.Need-shared-slice-read-free-lent Inv-loop μ-loop
-shared-slice-read-free-lent c = search needs
+shared-slice-read-free-in-copy : tie.Need-shared-slice-read-free-in-copy Inv-loop μ-loop
+shared-slice-read-free-in-copy c = search needs
 
-free-lent-requires : tie.Need-free-lent-requires Inv-loop μ-loop
-free-lent-requires c κs = search needs
+free-in-copy-requires : tie.Need-free-in-copy-requires Inv-loop μ-loop
+free-in-copy-requires c κs = search needs
 
 add-i : tie.Need-add-i Inv-loop μ-loop
 add-i c = search needs
@@ -35,7 +35,7 @@ loop-less : tie.Need-loop-less Inv-loop μ-loop
 loop-less c = search needs
 
 loop-again : tie.Need-loop-again Inv-loop μ-loop
-loop-again c = free-turn _ _ _ (c .before .free-lent .result) (c .before .before .before .loop-test .taken) (c .before .before .before .before .loop .inv) (c .before .free-lent .ensures)
+loop-again c = free-turn _ _ _ (c .before .free-in-copy .result) (c .before .before .before .loop-test .taken) (c .before .before .before .before .loop .inv) (c .before .free-in-copy .ensures)
 
 words-requires : tie.Need-words-requires Inv-loop μ-loop
 words-requires c κs = search needs
@@ -57,9 +57,9 @@ slots-frees-in-place-spec =
     μ-loop
     holding-requires
     loop-holds
-    mul-free-lent
-    shared-slice-read-free-lent
-    free-lent-requires
+    mul-free-in-copy
+    shared-slice-read-free-in-copy
+    free-in-copy-requires
     add-i
     loop-less
     loop-again

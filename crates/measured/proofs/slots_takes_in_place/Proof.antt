@@ -17,8 +17,8 @@ holding-requires c κs = search needs
 loop-holds : tie.Need-loop-holds Inv-loop μ-loop
 loop-holds c = begins _ (c .holding .ensures)
 
-take-lent-requires : tie.Need-take-lent-requires Inv-loop μ-loop
-take-lent-requires c κs = search needs
+take-in-copy-requires : tie.Need-take-in-copy-requires Inv-loop μ-loop
+take-in-copy-requires c κs = search needs
 
 sub-left : tie.Need-sub-left Inv-loop μ-loop
 sub-left c = search needs
@@ -27,7 +27,7 @@ loop-less : tie.Need-loop-less Inv-loop μ-loop
 loop-less c = search needs
 
 loop-again : tie.Need-loop-again Inv-loop μ-loop
-loop-again c = take-turn _ _ _ (c .before .take-lent .result) (c .before .before .loop-test .taken) (c .before .before .before .loop .inv) (c .before .take-lent .ensures)
+loop-again c = take-turn _ _ _ (c .before .take-in-copy .result) (c .before .before .loop-test .taken) (c .before .before .before .loop .inv) (c .before .take-in-copy .ensures)
 
 words-requires : tie.Need-words-requires Inv-loop μ-loop
 words-requires c κs = search needs
@@ -49,7 +49,7 @@ slots-takes-in-place-spec =
     μ-loop
     holding-requires
     loop-holds
-    take-lent-requires
+    take-in-copy-requires
     sub-left
     loop-less
     loop-again
