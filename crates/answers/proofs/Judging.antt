@@ -9,7 +9,7 @@ use types.Run.{OneOf}
 use denote.Enum.Declared.{tagOf}
 use Rattle.answers.specs.Said.{Said, value, refused, Check, judged, onValue, judged-first, judged-then}
 use Rattle.answers.specs.Refusals.{numberOf}
-use Rattle.answers.specs.Answers.{Reply, at, ok, answerSays, nextFreeSays}
+use Rattle.answers.specs.Answers.{Reply, at, ok, answerSays, nextFreeSays, leftBy}
 use Rattle.answers.specs.declared.Refusal.{Refusal}
 use Rattle.answers.specs.declared.NextFree.{NextFree}
 use Rattle.answers.specs.declared.NextFree.the-variants.{At as NextFree·At, Refused as NextFree·Refused}
@@ -21,6 +21,11 @@ pub not-refused : (answer : Answer) → OneOf (0 ∷ 1 ∷ []) (tagOf the-type a
 not-refused (At n) h = (at n, refl)
 not-refused Done h = (ok, refl)
 not-refused (Refused why) h = absurd (⊎-elim (λ e. omega (arith, e)) (λ e. omega (arith, e)) h)
+
+pub left-accepted : {M : Type 0} (answer : Answer) → OneOf (0 ∷ 1 ∷ []) (tagOf the-type answer) → (before after : M) → leftBy answer before after ≡ after
+left-accepted (At n) h before after = refl
+left-accepted Done h before after = refl
+left-accepted (Refused why) h before after = absurd (⊎-elim (λ e. omega (arith, e)) (λ e. omega (arith, e)) h)
 
 -- where something was found, or why not, as the answer of a call that takes it
 module _ (found : NextFree) (said : Said Reply) (told : onValue at (nextFreeSays found) ≡ said) where

@@ -3,7 +3,7 @@
 use mathlib.Core.Path.{_≡_, refl, ap}
 use mathlib.Core.Bool.{Bool}
 use Prim.Native.Nat.{ℕ}
-use Rattle.answers.specs.Said.{Said, value, refused}
+use Rattle.answers.specs.Said.{Said, value, refused, onValue}
 use Rattle.answers.specs.Refusals.{numberOf, named, named-number, undone-injective}
 use Rattle.answers.specs.declared.Refusal.{Refusal}
 use Rattle.answers.specs.declared.Number.{Number}
@@ -42,6 +42,12 @@ answerSays (Answer·Refused r) = refused (numberOf r)
 abbrev pub nextFreeSays : NextFree → Said ℕ
 nextFreeSays (NextFree·At n) = value n
 nextFreeSays (NextFree·Refused r) = refused (numberOf r)
+
+-- what is left where a call was judged so: on a refusal what there was
+abbrev pub leftBy : {M : Type 0} → Answer → M → M → M
+leftBy (Answer·At n) before after = after
+leftBy Answer·Done before after = after
+leftBy (Answer·Refused r) before after = before
 
 -- ---- two answers that say the same are the same
 
@@ -90,3 +96,17 @@ answer-says-injective = undone-injective answerSays (saying replying Answer·Ref
 
 pub next-free-says-injective : (r s : NextFree) → nextFreeSays r ≡ nextFreeSays s → r ≡ s
 next-free-says-injective = undone-injective nextFreeSays (saying NextFree·At NextFree·Refused) next-free-back
+
+-- and so are two that say where a take starts
+startOf : Reply → ℕ
+startOf (at n) = n
+startOf ok = 0
+
+granted-back : (r : NextFree) → saying (λ (x : Reply). NextFree·At (startOf x)) NextFree·Refused (onValue at (nextFreeSays r)) ≡ r
+unfolding startOf onValue
+granted-back (NextFree·At n) = refl
+granted-back (NextFree·Refused r) = ap NextFree·Refused (named-number r)
+
+pub granted-says-injective : (r s : NextFree) → onValue at (nextFreeSays r) ≡ onValue at (nextFreeSays s) → r ≡ s
+granted-says-injective =
+    undone-injective (λ (r : NextFree). onValue at (nextFreeSays r)) (saying (λ (x : Reply). NextFree·At (startOf x)) NextFree·Refused) granted-back

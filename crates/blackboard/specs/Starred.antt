@@ -13,8 +13,8 @@ use Rattle.slots.specs.Sets.{allFree, allUsed, painted}
 use Rattle.slots.specs.Lowest.{fitsAt, lowest}
 use Rattle.slots.specs.Calls.{takeCall, claimCall, freeCall, getCall}
 use Rattle.slots.specs.View.{answered, changed}
-use Rattle.slots.specs.Layouts.{listed}
-use Rattle.layout.specs.Painting.{slotIn}
+use Rattle.rows.specs.Words.{listed}
+use Rattle.rows.specs.Painting.{slotsIn, slotIn}
 use Rattle.tree.specs.declared.Tree.{Tree}
 use Rattle.tree.specs.Layout.{treeOf, treeView, slotOf}
 use Rattle.tree.specs.Contracts.{NewEmptySays, NewFullSays}
@@ -106,5 +106,5 @@ starred =
     ∷ []
 
 pub every-row-holds : EachHolds starred
-unfolding outcome changed answered leaving judged takeCall claimCall freeCall getCall lowest fitsAt least every within allFree allUsed painted slotIn digit number listed
+unfolding outcome changed answered leaving judged takeCall claimCall freeCall getCall lowest fitsAt least every within allFree allUsed painted slotIn slotsIn digit number listed
 every-row-holds = (refl, (refl, (refl, (refl, (refl, (refl, (refl, (refl, (refl, (refl, (refl, (refl, (refl, (refl, tt))))))))))))))

@@ -3,7 +3,6 @@
 use crate::asked;
 use crate::names;
 use crate::show;
-use layout::sixteen;
 use tree::Changed;
 use tree::Tree;
 
@@ -30,7 +29,7 @@ fn runs(words: [u64; 16]) {
     let mut last = 0;
     let mut inside = false;
     while slot < 1025 {
-        let used = sixteen::get(&words, slot);
+        let used = rows::get(&words, slot);
         inside = run_edge(slot, last, inside, used);
         last = slot;
         slot += 1;
@@ -40,7 +39,7 @@ fn runs(words: [u64; 16]) {
 fn drawn(map: Tree) {
     let words = map.words();
     show::text(b", leaves");
-    if sixteen::count(&words) == 0 {
+    if rows::count(&words) == 0 {
         show::text(b" none");
     }
     runs(words);

@@ -6,7 +6,7 @@ use native.Mathlib.Omega.{arith}
 use lib.ListN.{length, getD, drop, drop-of-length-le}
 use lib.Seq.{drop-cons}
 use Rattle.bits.specs.Range.{count}
-use Rattle.layout.specs.Painting.{slotIn}
+use Rattle.rows.specs.Painting.{slotsIn, slotIn, slots-all}
 use Rattle.slots.specs.Plain.{Asked, free}
 use Rattle.slots.specs.Series.{made, lastOf}
 use Rattle.tree.specs.declared.Tree.{Tree}
@@ -50,7 +50,9 @@ module _ {words : List ℕ} {calls : List Asked} where
     alike = ends .alike ∙ ap (λ (l : List ℕ). lastOf treeView treeCalls m (freesOf l n)) (drop-of-length-le starts {i = i} over);
   }
 
-  pub finished : {m : Tree} (after : List ℕ) (r : ℕ) → Ends words calls m [] → after ≡ m .words → r ≡ count (slotIn after) 0 1024 → After words calls r after
-  finished after r ends is counted =
+  pub finished : {m : Tree} (after : List ℕ) (r : ℕ) → Ends words calls m [] → after ≡ m .words → 16 ≡ length after → r ≡ count (slotIn after) 0 (slotsIn after)
+      → After words calls r after
+  finished after r ends is sixteen counted =
       let same : after ≡ wordsAfter words calls = is ∙ ap (λ (t : Tree). t .words) (sym (ends .alike)) in
-      λ i. ((counted ∙ ap (λ (l : List ℕ). count (slotIn l) 0 1024) same) i, same i)
+      let all = slots-all after 16 (sym sixteen) (omega arith) in
+      λ i. ((counted ∙ ap (count (slotIn after) 0) all ∙ ap (λ (l : List ℕ). count (slotIn l) 0 1024) same) i, same i)

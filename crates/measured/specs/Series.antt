@@ -4,7 +4,7 @@ use mathlib.Core.Path.{_≡_, sym, ap, _∙_}
 use mathlib.Core.List.{List, [], _∷_, map}
 use Prim.Native.Nat.{ℕ, zero, suc}
 use Rattle.bits.specs.Range.{count}
-use Rattle.layout.specs.Painting.{slotIn}
+use Rattle.rows.specs.Painting.{slotIn}
 use Rattle.slots.specs.Plain.{Asked, take, free}
 use Rattle.slots.specs.Series.{lastOf}
 use Rattle.tree.specs.Layout.{holding, treeView, treeCalls}

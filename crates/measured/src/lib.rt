@@ -1,7 +1,6 @@
 // What the measurement calls from outside: takes and frees one after the other on a tree that is
 // lent as its sixteen words, by value and in place. Thin: a loop over the calls of `tree` and of
 // `in_place`.
-use layout::sixteen;
 use tree::Tree;
 ghost use Rattle.measured.specs.Series.{TakesSays, FreesSays};
 
@@ -17,8 +16,9 @@ pub extern "C" fn slots_takes(words: &mut [u64; 16], n: usize, a: usize, times: 
         map = map.take(n, a).map;
         left -= 1;
     }
-    *words = map.words();
-    sixteen::count(words)
+    let left = map.words();
+    *words = left;
+    rows::count(&left)
 }
 
 // A free of n slots from each of the starts; a free that is refused changes nothing. Answers how many
@@ -33,8 +33,9 @@ pub extern "C" fn slots_frees(words: &mut [u64; 16], starts: &[u64], n: usize) -
         map = map.free(starts[i] as usize, n).map;
         i += 1;
     }
-    *words = map.words();
-    sixteen::count(words)
+    let left = map.words();
+    *words = left;
+    rows::count(&left)
 }
 
 // The same, by the in-place forms.
@@ -53,8 +54,9 @@ pub extern "C" fn slots_takes_in_place(
         map = in_place::take_in_copy(map, n, a).map;
         left -= 1;
     }
-    *words = map.words();
-    sixteen::count(words)
+    let left = map.words();
+    *words = left;
+    rows::count(&left)
 }
 
 #[no_mangle]
@@ -67,6 +69,7 @@ pub extern "C" fn slots_frees_in_place(words: &mut [u64; 16], starts: &[u64], n:
         map = in_place::free_in_copy(map, starts[i] as usize, n).map;
         i += 1;
     }
-    *words = map.words();
-    sixteen::count(words)
+    let left = map.words();
+    *words = left;
+    rows::count(&left)
 }

@@ -10,8 +10,8 @@ use Rattle.slots.specs.Sets.{allFree, allUsed, painted}
 use Rattle.slots.specs.Lowest.{fitsAt, lowest}
 use Rattle.slots.specs.Calls.{takeCall, claimCall, freeCall, usedCall}
 use Rattle.slots.specs.View.{answered, changed}
-use Rattle.slots.specs.Layouts.{listed}
-use Rattle.layout.specs.Painting.{slotIn}
+use Rattle.rows.specs.Words.{listed}
+use Rattle.rows.specs.Painting.{slotsIn, slotIn}
 use Rattle.report.specs.Fields.{firstField, fieldsWithin, fields}
 use Rattle.report.specs.Report.{decimalWithin, decimal, linesOf, textOf, reportFrom, reportOf}
 
@@ -45,5 +45,5 @@ rows =
     ∷ []
 
 pub each-reports : EachReports rows
-unfolding reportFrom textOf linesOf decimal decimalWithin fields fieldsWithin firstField fromBytes changed answered leaving judged takeCall claimCall freeCall usedCall lowest fitsAt least every count within allFree allUsed painted slotIn digit number listed
+unfolding reportFrom textOf linesOf decimal decimalWithin fields fieldsWithin firstField fromBytes changed answered leaving judged takeCall claimCall freeCall usedCall lowest fitsAt least every count within allFree allUsed painted slotIn slotsIn digit number listed
 each-reports = (refl, (refl, tt))

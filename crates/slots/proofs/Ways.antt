@@ -1,16 +1,13 @@
--- What is said on each way that a program takes through its checks, over the capacity: the word's and the tree's proofs cite these. Rests on `Calls`.
+-- What is said on each way that a program takes through its checks, over the capacity: the judges' proofs cite these. Rests on `Calls`.
 use mathlib.Core.Path.{_≡_, refl}
-use mathlib.Core.Logic.{inl, inr}
 use mathlib.Core.Bool.{false}
 use Prim.Native.Nat.{ℕ, _-_, _^_, _≤_, _<_}
 use native.Mathlib.Omega.{arith}
 use lib.Dec.{eqb}
 use borrow.Author.Tests.{eq-eqb, ne-eqb, lt-ltb, le-ltb, lt-leb, le-leb}
 use Rattle.answers.specs.Said.{value, refused, judged}
-use Rattle.answers.specs.Faults.{faults-decide, finds-eq}
 use Rattle.slots.specs.Sets.{Slots, allFree}
 use Rattle.slots.specs.Calls.{says, rangeChecks, takeCall, nextFreeCall, getCall, emptyCall}
-use Rattle.slots.specs.Promises.{InRange, in-range, setFaults, finds-past}
 
 -- ---- the checks of a range
 
@@ -30,12 +27,6 @@ module _ {A : Type 0} (k s n : ℕ) (x : A) where
   pub range-inside : 0 < n → s ≤ 2 ^ k → n ≤ 2 ^ k - s → judged (rangeChecks k s n) x ≡ value x
   unfolding judged
   range-inside pos l h = rw (ne-eqb n 0 (λ e. omega arith), le-ltb (2 ^ k) s l, le-ltb (2 ^ k - s) n h)
-
-  -- and where nothing was refused, the range is one
-  pub range-accepted : (y : A) → judged (rangeChecks k s n) x ≡ value y → InRange k s n
-  range-accepted y said =
-      let none = faults-decide (rangeChecks k s n) (setFaults k s n) x (omega arith) (refl, finds-eq n 0, λ _. (refl, finds-past k s n, λ _. tt)) .accepts y .0 said .0 in
-      in-range k s n (λ z. none 2 (inl (refl, z))) (λ p. none 4 (inr (inl (refl, p))))
 
 -- ---- the checks of take
 

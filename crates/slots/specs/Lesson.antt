@@ -4,12 +4,12 @@ use mathlib.Core.Path.{_≡_, refl, _∙_}
 use mathlib.Core.Logic.{_↔_}
 use mathlib.Core.Bool.{Bool, true, false}
 use mathlib.Core.List.{List, [], _∷_, Perm, Perm·swap}
-use Prim.Native.Nat.{ℕ}
+use Prim.Native.Nat.{ℕ, _^_, _<_}
 use native.Mathlib.Omega.{arith}
 use Rattle.answers.specs.Said.{value, refused, judged, leaving}
 use Rattle.answers.specs.Answers.{at, ok}
 use Rattle.bits.specs.Range.{least, every, within}
-use Rattle.bits.specs.Digits.{digit, number}
+use Rattle.bits.specs.Digits.{digit, number, digit-number, number-lt, number-digit, past-digit}
 use Rattle.slots.specs.Sets.{allFree, allUsed, painted, AllUsed}
 use Rattle.slots.specs.Lowest.{fitsAt, lowest}
 use Rattle.slots.specs.Calls.{takeCall, freeCall}
@@ -19,11 +19,25 @@ use Rattle.slots.specs.View.{View, answered, changed, changed-says, soun
 use Rattle.slots.specs.Kinds.{plain}
 use Rattle.slots.specs.Plain.{Asked, take, free, plainCalls}
 use Rattle.slots.specs.Series.{made, answersOf, recordOf, lastOf, last-sound}
-use Rattle.slots.specs.Layouts.{digitsView}
 
 -- four slots in one number: slot s is digit s
 abbrev pub four : View plain
-four = digitsView 2
+four = record {
+  k = 2;
+  Map = ℕ;
+  stateOf = digit;
+  ofState = λ S. number S 4;
+  Sound = λ m. Unit {0};
+  isSound = λ m. true;
+  IsMap = λ m. m < 2 ^ 4;
+  finds-sound = λ m. (λ t. tt, λ t. tt);
+  holds = λ S s h. digit-number S 4 s h;
+  past = λ m held s h. past-digit m 4 s held h;
+  right = λ m sound held. tt;
+  made-sound = λ S right. tt;
+  made-map = λ S. number-lt S 4;
+  same = λ m sound held. number-digit m 4 held;
+}
 
 -- only slot 0 is used at first
 abbrev freeFirst : List Asked

@@ -11,6 +11,6 @@ pub mod Family
 pub mod Plain
 pub mod Series
 pub mod Demands
-pub mod Layouts
+pub mod Keeping
 pub mod Readings
 pub mod Lesson

@@ -1,7 +1,7 @@
 -- Demand 3, over any kind of state, any layout and any family of calls: a series of calls, the record that it writes down, and that the record can be
 -- walked backward, replayed, and reordered. Only the bridges know what a call does. Rests on `View` and on `Family`.
 use mathlib.Core.Path.{_≡_, refl, sym, ap, subst, fun-ext, _∙_}
-use mathlib.Core.Bool.{Bool, true, false}
+use mathlib.Core.Bool.{false}
 use mathlib.Core.List.{List, [], _∷_, _++_, map, reverse, reverse-cons, map-append, Perm}
 use Prim.Native.Nat.{ℕ, _+_, _^_}
 use native.Mathlib.Omega.{arith}
@@ -12,7 +12,7 @@ use Rattle.answers.specs.Answers.{Reply, ok}
 use Rattle.bits.specs.Range.{either}
 use Rattle.slots.specs.Promises.{InRange}
 use Rattle.slots.specs.Kinds.{Kind, State, turned-other}
-use Rattle.slots.specs.Calls.{Call, says}
+use Rattle.slots.specs.Calls.{says}
 use Rattle.slots.specs.Records.{Entry, undo, after, Turns, AllTurn, finally, touches, undo-restores, any-order}
 use Rattle.slots.specs.View.{View, changed, changed-says, changed-refused, changed-sound, changed-map, sound-answers, says-accepted, same-state}
 use Rattle.slots.specs.Family.{Family, Bridge}

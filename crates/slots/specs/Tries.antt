@@ -1,5 +1,5 @@
 -- One turn of the search that take makes, over the capacity: the next free slot from the try on, what is known of it, and the try that follows.
--- The loops of the word and of the tree cite these. Rests on `Search`.
+-- The search of `judges` cites these. Rests on `Search`.
 use mathlib.Core.Path.{_≡_, sym, _∙_}
 use mathlib.Core.Bool.{Bool, true, false, true≢false}
 use mathlib.Core.List.{[], _∷_}

@@ -8,9 +8,8 @@ use denote.Laws.{Is}
 use denote.Struct.Declared.{row}
 use denote.Struct.Laws.{vals}
 use borrow.Author.Needs.{needs}
-use Rattle.bits.specs.Digits.{number}
 use Rattle.tree.specs.declared.Tree.{Tree}
-use Rattle.tree.specs.Layout.{IsTree}
+use Rattle.tree.specs.Layout.{IsTree, is-tree-means}
 use Rattle.tree.proofs.Tree.{the-type}
 use Rattle.tree.proofs.Tree.Laws.{the-laws}
 
@@ -25,5 +24,4 @@ module _ (t : Tree) (good : Is (row the-type) t (vals the-type the-laws t)) wher
   summary-fits = search needs
 
   pub is-tree : IsTree t
-  unfolding number
-  is-tree = record { count-right = sixteen; parts-maps = λ i l. word-fits i .fits; summary-fits = summary-fits .fits }
+  is-tree = is-tree-means t .1 (sixteen, λ i l. word-fits i .fits, summary-fits .fits)

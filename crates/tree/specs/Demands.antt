@@ -1,6 +1,6 @@
 -- What the owner demands of the tree map: one value of `Demands`, which has the sentences; what is the tree's own beside it; and that each contract leaves
 -- one outcome.
-use mathlib.Core.Path.{_≡_, refl, sym, ap, _∙_}
+use mathlib.Core.Path.{_≡_, sym, ap, _∙_}
 use mathlib.Core.Bool.{Bool}
 use mathlib.Core.List.{List, [], _∷_}
 use Prim.Native.Nat.{ℕ}
@@ -9,17 +9,18 @@ use Rattle.answers.specs.Answers.{Reply, answerSays, nextFreeSays, truthSays, n
 use Rattle.answers.specs.declared.NextFree.{NextFree}
 use Rattle.answers.specs.declared.Number.{Number}
 use Rattle.answers.specs.declared.Truth.{Truth}
-use Rattle.bits.specs.Digits.{number, number-lt}
+use Rattle.bits.specs.Digits.{number}
 use Rattle.slots.specs.Sets.{none, all}
 use Rattle.slots.specs.Calls.{takeCall, claimCall, freeCall, setCall}
 use Rattle.slots.specs.Plain.{Asked, callOf}
 use Rattle.slots.specs.Demands as Slots
 use Rattle.slots.specs.Demands.{Demands, demanded, Ran}
-use Rattle.layout.specs.Painting.{slotIn}
-use Rattle.layout.specs.Sixteen.{usedWord, summaryOf, sound-by-summary}
+use Rattle.rows.specs.Painting.{slotIn}
+use Rattle.rows.specs.Words.{listed}
+use Rattle.rows.specs.Summary.{summary-right}
 use Rattle.tree.specs.declared.Tree.{Tree}
 use Rattle.tree.specs.declared.Changed.{Changed}
-use Rattle.tree.specs.Layout.{holding, parted, slotOf, ofSlots, Sound, IsTree, treeView}
+use Rattle.tree.specs.Layout.{holding, slotOf, ofSlots, Sound, IsTree, treeView, sound-means}
 use Rattle.tree.specs.Contracts.{Leaves, NewEmptySays, NewFullSays, HoldingSays, WithSummarySays, WordsSays, SummarySays, TakeSays, ClaimSays, FreeSays, SetSays, NextFreeSays, GetSays, EmptySays, UsedSays, CapacitySays}
 
 -- ---- the demands. An outcome is a `Changed`; the tree's contracts are those of `Demands`, with 2 ^ 10 slots
@@ -71,13 +72,12 @@ full-is-sound r e = rw e (treeView .made-sound all tt)
 
 -- the full summary is 65,535
 pub full-summary : (r : Tree) → NewFullSays r → r .summary ≡ 65535
-unfolding number
+unfolding number listed
 full-summary r e = ap (λ (t : Tree). t .summary) e
 
 -- a tree made of words is sound, and holds their slots
 pub holding-is-sound : (words : List ℕ) (r : Tree) → HoldingSays words r → Sound r
-unfolding summaryOf
-holding-is-sound words r e = rw e (sound-by-summary (parted (holding words)) (number-lt (usedWord words) 16) .1 refl)
+holding-is-sound words r e = rw e (sound-means (holding words) .1 (summary-right words))
 
 pub holding-holds : (words : List ℕ) (r : Tree) → HoldingSays words r → (i : ℕ) → slotOf r i ≡ slotIn words i
 holding-holds words r e i = ap (λ (t : Tree). slotOf t i) e

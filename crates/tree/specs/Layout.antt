@@ -1,24 +1,23 @@
--- The view of the tree map: sixteen words of 64 slots under a summary. Rests on the construction of `slots` and on the sixteen words of `layout`.
-use mathlib.Core.Path.{_≡_, refl, sym, fun-ext}
+-- The view of the tree map: sixteen words of 64 slots in a row, and their summary kept beside them. Rests on the views of `slots` and `rows`.
+use mathlib.Core.Path.{_≡_, refl}
 use mathlib.Core.Logic.{_↔_}
 use mathlib.Core.Bool.{true}
 use mathlib.Core.List.{List}
-use Prim.Native.Nat.{ℕ, _<_}
-use lib.ListN.{getD}
-use Rattle.bits.specs.Digits.{digit, number}
-use Rattle.slots.specs.Sets.{Slots}
+use Prim.Native.Nat.{ℕ, _+_, _*_, _^_, _≤_, _<_}
+use native.Mathlib.Omega.{arith}
+use lib.ListN.{length, getD}
+use Rattle.bits.specs.Digits.{digit}
+use Rattle.slots.specs.Sets.{Slots, SomeUsed}
 use Rattle.slots.specs.Kinds.{plain}
 use Rattle.slots.specs.Family.{Family}
 use Rattle.slots.specs.Plain.{plainCalls}
 use Rattle.slots.specs.View.{View}
-use Rattle.slots.specs.Layouts.{Summed, digitsView, noDigits, underSummary, carried, seenAs}
-use Rattle.layout.specs.Painting.{slotIn}
-use Rattle.layout.specs.Sixteen.{summaryOf, slots-of-view}
+use Rattle.slots.specs.Keeping.{carried, keeping}
+use Rattle.rows.specs.Painting.{slotIn}
+use Rattle.rows.specs.Rows.{summaryOf}
+use Rattle.rows.specs.Words.{wordsView, word-digit}
+use Rattle.rows.specs.Summary.{summaryKept, part-used}
 use Rattle.tree.specs.declared.Tree.{Tree}
-
--- the words are the parts
-abbrev pub parted : Tree → Summed ℕ
-parted t = record { parts = t .words; summary = t .summary }
 
 abbrev pub treeOf : List ℕ → ℕ → Tree
 treeOf words summary = record { words = words; summary = summary }
@@ -27,18 +26,17 @@ treeOf words summary = record { words = words; summary = summary }
 abbrev pub holding : List ℕ → Tree
 holding words = treeOf words (summaryOf words)
 
-abbrev pub partedView : View plain
-partedView = carried (underSummary (digitsView 6) (noDigits 6) 4) Tree parted (λ m. treeOf (m .parts) (m .summary)) (λ m. refl) (λ t. refl)
-
 -- slot s is bit s % 64 of word s / 64
 abbrev pub slotOf : Tree → Slots
 slotOf t = slotIn (t .words)
 
-pub slots-seen : (t : Tree) → partedView .stateOf t ≡ slotOf t
-slots-seen t = fun-ext (λ s. sym (slots-of-view (parted t) s))
+-- a row may have sixteen words
+pub sixteen-fit : 2 ^ 4 ≤ 256
+sixteen-fit = omega arith
 
 abbrev pub treeView : View plain
-treeView = seenAs partedView slotOf slots-seen
+treeView = carried (keeping (wordsView 4 sixteen-fit) (summaryKept 4 sixteen-fit)) Tree
+    (λ t. record { map = t .words; kept = t .summary }) (λ m. treeOf (m .map) (m .kept)) (λ S. refl) (λ t. refl)
 
 -- the calls that a series on a tree may hold: take, claim and free
 abbrev pub treeCalls : Family plain 10
@@ -58,5 +56,18 @@ IsTree t = treeView .IsMap t
 -- ---- what they mean
 
 pub sound-means : (t : Tree) → Sound t ↔ ((i : ℕ) → i < 16 → (digit (t .summary) i ≡ true) ↔ (getD (t .words) i 0 ≡ 0 → ⊥))
-unfolding number
-sound-means t = (λ sound. sound .summary-right, λ right. record { parts-sound = λ i l. tt; summary-right = right })
+sound-means t = (λ sound. sound .kept-agrees, λ right. record { map-sound = tt; kept-agrees = right })
+
+pub is-tree-means : (t : Tree) → IsTree t ↔ ((length (t .words) ≡ 16) × ((i : ℕ) → i < 16 → getD (t .words) i 0 < 2 ^ 64) × (t .summary < 2 ^ 16))
+is-tree-means t = (
+  λ held. (held .is-map .so-many, held .is-map .each-fits, held .is-field),
+  λ h. record { is-map = record { so-many = h .0; each-fits = h .1 }; is-field = h .2 },
+)
+
+-- the tree of a set: place p of word i is slot i * 64 + p, and summary bit i is 1 exactly if one of word i's slots is used
+pub of-slots-means : (S : Slots) (i : ℕ) → i < 16
+    → ((p : ℕ) → p < 64 → digit (getD (ofSlots S .words) i 0) p ≡ S (i * 64 + p)) × ((digit (ofSlots S .summary) i ≡ true) ↔ SomeUsed S (i * 64) 64)
+of-slots-means S i l =
+    let bit = sound-means (ofSlots S) .0 (treeView .made-sound S tt) i l in
+    let used = part-used 4 sixteen-fit S i l in
+    (λ p h. word-digit 4 S i p l h, (λ e. used .0 (bit .0 e), λ some. bit .1 (used .1 some)))

@@ -2,27 +2,21 @@
 // hands it back with its answer; a refused call hands back the very map. A tree is sound when summary
 // bit i is 1 exactly if word i is not 0. Take, claim, free, set, next_free, get, empty and used refuse
 // any other with 1, before all else. Capacity, and what makes a tree or reads its words and its
-// summary, answer for every tree. Rests on `layout`.
+// summary, answer for every tree. Rests on `judges` and `rows`.
 
 use answers::Answer;
 use answers::NextFree;
 use answers::Number;
 use answers::Refusal;
 use answers::Truth;
-use layout::sixteen;
+use judges::Size;
+use rows::SHIFTS;
+use rows::TABLE;
 ghost use Rattle.tree.specs.Contracts.{NewEmptySays, NewFullSays, HoldingSays, WithSummarySays, WordsSays, SummarySays, TakeSays, ClaimSays, FreeSays, SetSays, NextFreeSays, GetSays, EmptySays, UsedSays, CapacitySays};
-ghost use Rattle.tree.specs.Inner.{SoundSays, RangeSays, ClaimJudged, FreeJudged, TakeJudged, leftBy, NextFreeInSays, LowestStartSays};
+ghost use Rattle.answers.specs.Answers.{leftBy};
+ghost use Rattle.tree.specs.Inner.{SoundSays, RangeJudged, ChangeJudged, TakeJudged, paintedTree};
 ghost use Rattle.tree.specs.Layout.{treeOf};
-ghost use Rattle.slots.specs.Tries.{nextTry};
 ghost use mathlib.Core.Path.{_≡_};
-ghost use Prim.Native.Nat.{_≤_, _<_};
-
-const CAPACITY: usize = 1024;
-
-// Where the masks of a run come from: claim and set read the table, take and free shift.
-const TABLE: bool = true;
-
-const SHIFTS: bool = false;
 
 // Slot s is bit s % 64 of word s / 64; 1 means used.
 pub struct Tree {
@@ -61,7 +55,7 @@ impl Tree {
     pub fn holding(words: [u64; 16]) -> Tree
         ensures { λ r. ⌜ HoldingSays words r ⌝ }
     {
-        let theirs = sixteen::summary(&words);
+        let theirs = rows::summary(&words);
         Tree {
             words,
             summary: theirs,
@@ -124,7 +118,7 @@ impl Tree {
         ensures { λ r. ⌜ ClaimSays self start n r ⌝ }
     {
         let mut words = self.words;
-        let judged = judged_claim(&words, self.summary, start, n);
+        let judged = judged_change(&words, self.summary, start, n, true);
         let summary = carried_out(&mut words, self.summary, judged, start, n, true, TABLE);
         Changed {
             answer: judged,
@@ -139,7 +133,7 @@ impl Tree {
         ensures { λ r. ⌜ FreeSays self start n r ⌝ }
     {
         let mut words = self.words;
-        let judged = judged_free(&words, self.summary, start, n);
+        let judged = judged_change(&words, self.summary, start, n, false);
         let summary = carried_out(&mut words, self.summary, judged, start, n, false, SHIFTS);
         Changed {
             answer: judged,
@@ -170,10 +164,7 @@ impl Tree {
         if !sound(&self.words, self.summary) {
             return NextFree::Refused(Refusal::Unsound);
         }
-        if CAPACITY <= start {
-            return NextFree::Refused(Refusal::PastTheEnd);
-        }
-        next_free_in(&self.words, start)
+        judges::next_free(&self.words, Size::Tree, start)
     }
 
     // Whether the slot is used. Refused: 1 where the tree is not sound, 4 where the slot is
@@ -184,10 +175,7 @@ impl Tree {
         if !sound(&self.words, self.summary) {
             return Truth::Refused(Refusal::Unsound);
         }
-        if CAPACITY <= slot {
-            return Truth::Refused(Refusal::PastTheEnd);
-        }
-        Truth::Is(sixteen::get(&self.words, slot))
+        judges::get(&self.words, Size::Tree, slot)
     }
 
     // Whether no slot is used: the summary alone tells it of a sound map. Refused: 1 where the
@@ -208,89 +196,54 @@ impl Tree {
         if !sound(&self.words, self.summary) {
             return Number::Refused(Refusal::Unsound);
         }
-        Number::Is(sixteen::count(&self.words) as u64)
+        Number::Is(rows::count(&self.words) as u64)
     }
 
     // How many slots there are, on every tree. Never refused.
     pub fn capacity(self) -> usize
         ensures { λ r. ⌜ CapacitySays r ⌝ }
     {
-        CAPACITY
+        judges::capacity(Size::Tree)
     }
 }
 
 // Whether the summary is that of the words.
-fn sound(words: &[u64; 16], summary: u16) -> bool
+fn sound(words: &[u64], summary: u16) -> bool
     ensures { λ r. ⌜ SoundSays (now (words .entry)) summary r ⌝ }
 {
-    sixteen::summary(words) == summary
+    rows::summary(words) == summary
 }
 
-// Done where the map is sound and the n slots from `start` on are a range of it, and else the
-// refusal. No sum is made that could wrap.
-fn judged_range(words: &[u64; 16], summary: u16, start: usize, n: usize) -> Answer
-    ensures { λ r. ⌜ RangeSays (now (words .entry)) summary start n r ⌝ }
+// ---- check 1, in front of the judges
+
+// Done where the map is sound and the n slots from `start` on are a range of it, and else the refusal.
+fn judged_range(words: &[u64], summary: u16, start: usize, n: usize) -> Answer
+    ensures { λ r. ⌜ RangeJudged (now (words .entry)) summary start n r ⌝ }
 {
     if !sound(words, summary) {
         return Answer::Refused(Refusal::Unsound);
     }
-    if n == 0 {
-        return Answer::Refused(Refusal::NoEntries);
-    }
-    if CAPACITY < start {
-        return Answer::Refused(Refusal::PastTheEnd);
-    }
-    if CAPACITY - start < n {
-        return Answer::Refused(Refusal::PastTheEnd);
-    }
-    Answer::Done
+    judges::range(Size::Tree, start, n)
 }
 
-// Done where claim accepts, and else its refusal.
-fn judged_claim(words: &[u64; 16], summary: u16, start: usize, n: usize) -> Answer
-    ensures { λ r. ⌜ ClaimJudged (now (words .entry)) summary start n r ⌝ }
+// Done where claim accepts, or free where `used` is false, and else the refusal.
+fn judged_change(words: &[u64], summary: u16, start: usize, n: usize, used: bool) -> Answer
+    ensures { λ r. ⌜ ChangeJudged (now (words .entry)) summary start n used r ⌝ }
 {
-    let range = judged_range(words, summary, start, n);
-    if let Answer::Refused(why) = range {
-        return Answer::Refused(why);
+    if !sound(words, summary) {
+        return Answer::Refused(Refusal::Unsound);
     }
-    if !sixteen::all_free(words, start, n) {
-        return Answer::Refused(Refusal::AlreadyUsed);
-    }
-    Answer::Done
-}
-
-// Done where free accepts, and else its refusal.
-fn judged_free(words: &[u64; 16], summary: u16, start: usize, n: usize) -> Answer
-    ensures { λ r. ⌜ FreeJudged (now (words .entry)) summary start n r ⌝ }
-{
-    let range = judged_range(words, summary, start, n);
-    if let Answer::Refused(why) = range {
-        return Answer::Refused(why);
-    }
-    if !sixteen::all_used(words, start, n) {
-        return Answer::Refused(Refusal::AlreadyFree);
-    }
-    Answer::Done
+    judges::change(words, Size::Tree, start, n, used)
 }
 
 // The start that take grants, or its refusal.
-fn judged_take(words: &[u64; 16], summary: u16, n: usize, a: usize) -> NextFree
+fn judged_take(words: &[u64], summary: u16, n: usize, a: usize) -> NextFree
     ensures { λ r. ⌜ TakeJudged (now (words .entry)) summary n a r ⌝ }
 {
     if !sound(words, summary) {
         return NextFree::Refused(Refusal::Unsound);
     }
-    if n == 0 {
-        return NextFree::Refused(Refusal::NoEntries);
-    }
-    if 10 <= a {
-        return NextFree::Refused(Refusal::AlignmentTooGreat);
-    }
-    if CAPACITY < n {
-        return NextFree::Refused(Refusal::PastTheEnd);
-    }
-    lowest_start(words, n, a)
+    judges::take(words, Size::Tree, n, a)
 }
 
 // Carries a judged call out in the words: on a refusal nothing, and else the n slots from `start` on
@@ -304,56 +257,11 @@ fn carried_out(
     used: bool,
     table: bool,
 ) -> u16
-    ensures { λ r. ⌜ treeOf (now (words .exit)) r ≡ leftBy (now (words .entry)) summary judged start n used ⌝ }
+    ensures { λ r. ⌜ treeOf (now (words .exit)) r ≡ leftBy judged (treeOf (now (words .entry)) summary) (paintedTree (now (words .entry)) summary start n used) ⌝ }
 {
     if let Answer::Refused(_) = judged {
         return summary;
     }
-    sixteen::paint(words, start, n, used, table);
-    sixteen::touched(words, summary, start, n)
-}
-
-// The least free slot from `start` on, or that there is no room: what take and the public query share.
-fn next_free_in(words: &[u64; 16], start: usize) -> NextFree
-    ensures { λ r. ⌜ NextFreeInSays (now (words .entry)) start r ⌝ }
-{
-    let slot = sixteen::first_free(words, start);
-    if CAPACITY <= slot {
-        return NextFree::Refused(Refusal::NoRoom);
-    }
-    NextFree::At(slot)
-}
-
-// The lowest start that fits, or that there is no room: the search that take makes. It leaves at
-// once where no slot is free from the try on.
-fn lowest_start(words: &[u64; 16], n: usize, a: usize) -> NextFree
-    requires { ⌜ (0 < n) × (n ≤ 1024) × (a < 10) ⌝ }
-    ensures { λ r. ⌜ LowestStartSays (now (words .entry)) n a r ⌝ }
-{
-    let mut start = 0;
-    while start + n <= CAPACITY {
-        let next = next_free_in(words, start);
-        let NextFree::At(free) = next else {
-            return NextFree::Refused(Refusal::NoRoom);
-        };
-        if free == start {
-            if sixteen::all_free(words, start, n) {
-                return NextFree::At(start);
-            }
-        }
-        start = next_try(start, free, a);
-    }
-    NextFree::Refused(Refusal::NoRoom)
-}
-
-// The next multiple of 2^a: after `start` where the run from there did not fit, and else after the
-// used slots before `free`.
-fn next_try(start: usize, free: usize, a: usize) -> usize
-    requires { ⌜ (start ≤ free) × (free ≤ 2048) × (a < 10) ⌝ }
-    ensures { λ r. ⌜ r ≡ nextTry start free a ⌝ }
-{
-    if free == start {
-        return ((start >> a) + 1) << a;
-    }
-    (((free - 1) >> a) + 1) << a
+    rows::paint(words, start, n, used, table);
+    rows::touched(words, summary, start, n)
 }

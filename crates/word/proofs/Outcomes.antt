@@ -1,66 +1,58 @@
--- What a call on a word has to show at each way out, from what was said of its set. Assumes nothing.
-use mathlib.Core.Path.{_≡_, refl, sym, ap, _∙_}
+-- What a call on a word has to show at each way out, from what was said of the one word that it lends. Assumes nothing.
+use mathlib.Core.Path.{_≡_, sym, ap, _∙_}
 use mathlib.Core.Bool.{Bool}
-use mathlib.Core.List.{[], _∷_}
-use Prim.Native.Nat.{ℕ, _+_, _≤_}
-use types.Run.{OneOf}
-use denote.Enum.Declared.{tagOf}
-use Rattle.answers.proofs.Answer.{the-type}
-use Rattle.answers.proofs.Judging.{passed, not-refused}
-use Rattle.answers.specs.Said.{value, refused, value≢refused}
-use Rattle.answers.specs.Refusals.{numberOf}
-use Rattle.answers.specs.Answers.{Reply, at, ok, answerSays}
-use Rattle.answers.specs.declared.Refusal.{Refusal}
+use mathlib.Core.List.{List, [], _∷_}
+use Prim.Native.Nat.{ℕ}
+use native.Mathlib.Omega.{arith}
+use lib.Dec.{eqb, eqb→eq}
+use lib.ListN.{getD}
+use Rattle.answers.specs.Answers.{Reply, answerSays}
 use Rattle.answers.specs.declared.Answer.{Answer}
-use Rattle.answers.specs.declared.Answer.the-variants.{At, Done, Refused}
-use Rattle.bits.specs.Digits.{digit}
-use Rattle.one_word.specs.OneWord.{runMask, freeIn, usedIn, paintedIn, free-run, used-run, painted-run}
-use Rattle.slots.specs.Sets.{Slots, allFree, allUsed, painted}
-use Rattle.slots.specs.Calls.{Call, says, rangeChecks}
-use Rattle.slots.proofs.Ways.{range-accepted}
-use Rattle.slots.specs.View.{sound-refused, sound-accepted}
+use Rattle.bits.specs.Range.{same-test}
+use Rattle.slots.specs.Sets.{Slots, allFree, painted, finds-all-free}
+use Rattle.slots.specs.Calls.{Call, says}
+use Rattle.slots.specs.View.{answered, sound-answers}
+use Rattle.slots.proofs.Outcomes.{carried-out}
+use Rattle.rows.specs.Painting.{slotIn}
+use Rattle.rows.specs.Words.{one-word, painted-words, word-held}
+use Rattle.rows.specs.Summary.{word-free}
 use Rattle.word.specs.declared.Word.{Word}
 use Rattle.word.specs.declared.Changed.{Changed}
-use Rattle.word.specs.Layout.{ofSlots, wordView}
-use Rattle.word.specs.Inner.{RangeSays, carriedOut}
+use Rattle.word.specs.Layout.{wordOf, slotOf, ofSlots, wordView, IsWord, is-word-means, one-fits}
+use Rattle.word.specs.Inner.{paintedWord, carriedOut}
 use Rattle.word.specs.Contracts.{Leaves}
 
--- ---- the run's slots as the masked word shows them
+-- an answer, with the map that was left
+pub with-map : (judge : Answer) (left map : Word) → left ≡ map → _≡_ {A = Changed} (record { answer = judge; map = left }) (record { answer = judge; map = map })
+with-map judge left map e = ap (λ (w : Word). record { answer = judge; map = w }) e
 
--- a range that was not refused ends inside
-pub ends-inside : (s n : ℕ) (range : Answer) → RangeSays s n range → OneOf (0 ∷ 1 ∷ []) (tagOf the-type range) → s + n ≤ 64
-ends-inside s n range told kept = let said = passed (rangeChecks 6 s n) range told kept in range-accepted 6 s n ok (said .0) (said .1) .1
+module _ (w : Word) (held : IsWord w) where
+  -- the one word that is lent holds the map's slots
+  lent : slotIn (w .bits ∷ []) ≡ slotOf w
+  lent = one-word (w .bits) (is-word-means w .0 held)
 
-module _ (word mask s n : ℕ) (ends : s + n ≤ 64) (run : mask ≡ runMask s n) (flag : Bool) where
-  pub free-shown : flag ≡ freeIn word mask → flag ≡ allFree (digit word) s n
-  free-shown e = e ∙ ap (freeIn word) run ∙ free-run word s n ends
+  -- what is said of its slots is what the map answers
+  pub answers : {A : Type 0} (call : Slots → Call Slots A) → says (call (slotIn (w .bits ∷ []))) ≡ answered wordView w (call (slotOf w))
+  answers call = ap (λ (S : Slots). says (call S)) lent ∙ sym (sound-answers wordView w (call (slotOf w)) tt)
 
-  pub used-shown : flag ≡ usedIn word mask → flag ≡ allUsed (digit word) s n
-  used-shown e = e ∙ ap (usedIn word) run ∙ used-run word s n ends
+  -- a run painted in it is the word of the painted set
+  painted-word : (s n : ℕ) (v : Bool) → paintedWord (w .bits) s n v ≡ ofSlots (painted (slotOf w) s n v)
+  painted-word s n v =
+      ap (λ (words : List ℕ). wordOf (getD words 0 0)) (painted-words 0 one-fits (w .bits ∷ []) held s n v)
+      ∙ ap (λ (S : Slots). ofSlots (painted S s n v)) lent
 
--- ---- a judged call, carried out, is as its contract has it
+  -- it is 0 exactly if no slot is used
+  pub empty-shown : eqb (w .bits) 0 ≡ allFree (slotOf w) 0 64
+  empty-shown =
+      let found = finds-all-free (slotIn (w .bits ∷ [])) 0 64 in
+      let none = word-free (w .bits ∷ []) 0 (word-held 0 one-fits (w .bits ∷ []) held 0 (omega arith)) (held .each-fits 0 (omega arith)) in
+      same-test (eqb (w .bits) 0) (allFree (slotIn (w .bits ∷ [])) 0 64)
+      (λ e. found .1 (none .0 (eqb→eq (w .bits) 0 e))) (λ free. rw (none .1 (found .0 free)) tt)
+      ∙ ap (λ (S : Slots). allFree S 0 64) lent
 
--- what is left where nothing was refused
-pub left-accepted : (judge : Answer) → OneOf (0 ∷ 1 ∷ []) (tagOf the-type judge) → (bits mask painted : ℕ) (v : Bool) → painted ≡ paintedIn bits mask v
-    → _≡_ {A = Changed} (record { answer = judge; map = record { bits = painted } }) (carriedOut bits judge mask v)
-left-accepted (At o) kept bits mask painted v e = ap (λ (b : ℕ). record { answer = At o; map = record { bits = b } }) e
-left-accepted Done kept bits mask painted v e = ap (λ (b : ℕ). record { answer = Done; map = record { bits = b } }) e
-left-accepted (Refused why) kept bits mask painted v e = absurd (value≢refused _ _ (sym (not-refused (Refused why) kept .1)))
-
-module _ (w : Word) (call : Call Slots Reply) (r : Changed) where
-  pub refusing : (why : Refusal) → r ≡ record { answer = Refused why; map = w } → says call ≡ refused (numberOf why) → Leaves w call r
-  refusing why e said = ap (λ (out : Changed). (answerSays (out .answer), out .map)) e ∙ sym (sound-refused wordView w call (numberOf why) tt said)
-
-  module _ (mask s n : ℕ) (v : Bool) (run : mask ≡ runMask s n) (after : call .after ≡ painted (digit (w .bits)) s n v) where
-    accepting : (judge : Answer) (reply : Reply) → value reply ≡ says call → answerSays judge ≡ value reply
-        → r ≡ record { answer = judge; map = record { bits = paintedIn (w .bits) mask v } } → Leaves w call r
-    accepting judge reply told is e =
-        ap (λ (out : Changed). (answerSays (out .answer), out .map)) e
-        ∙ (λ i. (is i, record { bits = (ap (λ (m : ℕ). paintedIn (w .bits) m v) run ∙ painted-run (w .bits) s n v) i }))
-        ∙ ap (λ S. (value reply, ofSlots S)) (sym after)
-        ∙ sym (sound-accepted wordView w call reply tt (sym told))
-
-    pub carries : (judge : Answer) → answerSays judge ≡ says call → r ≡ carriedOut (w .bits) judge mask v → Leaves w call r
-    carries (At o) told e = accepting (At o) (at o) told refl e
-    carries Done told e = accepting Done ok told refl e
-    carries (Refused why) told e = refusing why e (sym told)
+  -- a judged call, carried out, is as its contract has it
+  pub carries : (call : Call Slots Reply) (s n : ℕ) (v : Bool) → call .after ≡ painted (slotOf w) s n v
+      → (judge : Answer) → answerSays judge ≡ answered wordView w call → (r : Changed) → r ≡ carriedOut (w .bits) judge s n v → Leaves w call r
+  carries call s n v after judge told r e =
+      ap (λ (out : Changed). (answerSays (out .answer), out .map)) e
+      ∙ carried-out wordView w call (paintedWord (w .bits) s n v) (λ reply said. painted-word s n v ∙ ap ofSlots (sym after)) judge told

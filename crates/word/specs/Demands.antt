@@ -2,7 +2,7 @@
 -- sound.
 use mathlib.Core.Path.{_≡_, sym, _∙_}
 use mathlib.Core.Bool.{Bool}
-use mathlib.Core.List.{List, [], _∷_}
+use mathlib.Core.List.{[], _∷_}
 use Prim.Native.Nat.{ℕ}
 use Rattle.answers.specs.Said.{Said, value, value-injective}
 use Rattle.answers.specs.Answers.{Reply, answerSays, nextFreeSays, truthSays, answer-says-injective, next-free-says-injective, truth-says-injective}

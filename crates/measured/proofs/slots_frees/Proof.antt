@@ -40,6 +40,9 @@ loop-again c = free-turn _ _ _ (c .before .free .result) (c .before .before .bef
 words-requires : tie.Need-words-requires Inv-loop μ-loop
 words-requires c κs = search needs
 
+slice-aggregate-count : tie.Need-slice-aggregate-count Inv-loop μ-loop
+slice-aggregate-count c = search needs
+
 count-requires : tie.Need-count-requires Inv-loop μ-loop
 count-requires c κs = search needs
 
@@ -47,7 +50,7 @@ returns : tie.Need-returns Inv-loop μ-loop
 returns c =
     let out-of-loop = c .before .before .before in
     let at-head = out-of-loop .before .loop in
-    finished _ _ (none-to-free _ _ (at-head .i) (out-of-loop .loop-test .left) (at-head .inv)) (c .before .before .words .ensures) (c .count .ensures)
+    finished _ _ (none-to-free _ _ (at-head .i) (out-of-loop .loop-test .left) (at-head .inv)) (c .before .before .words .ensures) (slice-aggregate-count (c .before)) (c .count .ensures)
 
 pub slots-frees-spec : {M : Type 1} → statement M
 slots-frees-spec =
@@ -64,5 +67,6 @@ slots-frees-spec =
     loop-less
     loop-again
     words-requires
+    slice-aggregate-count
     count-requires
     returns)

@@ -32,6 +32,9 @@ loop-again c = take-turn _ _ _ (c .before .take-in-copy .result) (c .before .bef
 words-requires : tie.Need-words-requires Inv-loop μ-loop
 words-requires c κs = search needs
 
+slice-aggregate-count : tie.Need-slice-aggregate-count Inv-loop μ-loop
+slice-aggregate-count c = search needs
+
 count-requires : tie.Need-count-requires Inv-loop μ-loop
 count-requires c κs = search needs
 
@@ -39,7 +42,7 @@ returns : tie.Need-returns Inv-loop μ-loop
 returns c =
     let out-of-loop = c .before .before .before in
     let at-head = out-of-loop .before .loop in
-    finished _ _ (none-to-take _ _ (at-head .left) (out-of-loop .loop-test .left) (at-head .inv)) (c .before .before .words .ensures) (c .count .ensures)
+    finished _ _ (none-to-take _ _ (at-head .left) (out-of-loop .loop-test .left) (at-head .inv)) (c .before .before .words .ensures) (slice-aggregate-count (c .before)) (c .count .ensures)
 
 pub slots-takes-in-place-spec : {M : Type 1} → statement M
 slots-takes-in-place-spec =
@@ -54,5 +57,6 @@ slots-takes-in-place-spec =
     loop-less
     loop-again
     words-requires
+    slice-aggregate-count
     count-requires
     returns)

@@ -7,7 +7,7 @@ use lib.ListN.{length}
 use lib.Dec.{ltb}
 use borrow.Author.Needs.{needs}
 use borrow.Author.Tests.{ltb-true, ltb-false}
-use Rattle.answers.specs.Said.{value, value≢refused, value-injective}
+use Rattle.answers.specs.Said.{value≢refused, value-injective}
 use Rattle.answers.specs.Answers.{numberSays}
 use Rattle.answers.specs.declared.Refusal.{Refusal}
 use Rattle.answers.specs.declared.Number.{Number}

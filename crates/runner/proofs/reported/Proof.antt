@@ -1,5 +1,4 @@
 -- `runner::reported` meets its contract. The loop's invariant is `Running`, and its measure is what is left of the record. Assumes nothing.
-use mathlib.Core.Path.{sym}
 use Prim.Native.Nat.{_-_}
 use native.Mathlib.Omega.{arith}
 use lib.ListN.{length}

@@ -1,6 +1,5 @@
 -- `runner::run` meets its contract: the two refusals in their order, and else what `reported` says. Assumes nothing.
 use mathlib.Core.Path.{sym}
-use native.Mathlib.Omega.{arith}
 use borrow.Author.Needs.{needs}
 use Rattle.report.specs.Report.{ran-too-long, ran-too-short}
 use Rattle.runner.proofs.run.Statement.{statement}

@@ -1,9 +1,11 @@
 -- `tree::carried_out` meets its contract: on a refusal the very words and summary, and else the painted ones. Assumes nothing.
 use mathlib.Core.Path.{sym, ap}
 use borrow.Author.Needs.{needs}
+use Rattle.answers.specs.Answers.{leftBy}
 use Rattle.answers.specs.declared.Answer.{Answer}
-use Rattle.tree.specs.Inner.{leftBy}
-use Rattle.tree.proofs.Outcomes.{carried}
+use Rattle.tree.specs.Layout.{treeOf}
+use Rattle.tree.specs.Inner.{paintedTree}
+use Rattle.tree.proofs.Outcomes.{left-as-judged}
 use Rattle.tree.proofs.carried_out.Statement.{statement}
 use Rattle.tree.proofs.carried_out.Tie as tie
 
@@ -13,7 +15,8 @@ enum-told c = search needs
 returns : tie.Need-returns
 returns c =
     let asked = c .before .before .args in
-    sym (ap (λ (judge : Answer). leftBy (asked .words .now) (asked .summary) judge (asked .start) (asked .n) (asked .used)) (c .enum-told .given .1))
+    let t = treeOf (asked .words .now) (asked .summary) in
+    sym (ap (λ (judge : Answer). leftBy judge t (paintedTree (asked .words .now) (asked .summary) (asked .start) (asked .n) (asked .used))) (c .enum-told .given .1))
 
 paint-requires : tie.Need-paint-requires
 paint-requires c κs = search needs
@@ -23,10 +26,10 @@ touched-requires c κs = search needs
 
 returns-2 : tie.Need-returns-2
 returns-2 c =
-    let painting = c .before .before in
+    let painting = c .before .before .before in
     let kept = painting .before .before in
     let asked = kept .before .args in
-    carried (asked .judged) (kept .match .keys2) (asked .words .now) (asked .summary) (asked .start) (asked .n) (asked .used) _ _ (painting .paint .ensures) (c .touched .ensures)
+    left-as-judged (asked .judged) (kept .match .keys2) (asked .words .now) (asked .summary) (asked .start) (asked .n) (asked .used) _ _ (painting .paint .ensures) (c .touched .ensures)
 
 pub carried-out-spec : {M : Type 1} → statement M
 carried-out-spec = tie.close (tie.spec enum-told returns paint-requires touched-requires returns-2)

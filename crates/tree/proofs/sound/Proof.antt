@@ -10,7 +10,7 @@ summary-requires c κs = search needs
 
 returns : tie.Need-returns
 returns c =
-    let entry = c .before in
+    let entry = c .before .before in
     sound-shown (treeOf (entry .args .words .now) (entry .args .summary)) (entry .fits .summary .fits) _ (c .summary .ensures)
 
 pub sound-spec : {M : Type 1} → statement M

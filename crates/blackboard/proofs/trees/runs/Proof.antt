@@ -13,6 +13,9 @@ abbrev μ-loop : tie.MeasureT-loop
 loop-holds : tie.Need-loop-holds Inv-loop μ-loop
 loop-holds c = search needs
 
+slice-aggregate-get : tie.Need-slice-aggregate-get Inv-loop μ-loop
+slice-aggregate-get c = search needs
+
 get-requires : tie.Need-get-requires Inv-loop μ-loop
 get-requires c κs = search needs
 
@@ -34,4 +37,4 @@ returns c = search needs
 pub runs-spec : {M : Type 1} → statement M
 runs-spec =
     tie.close
-    (tie.spec Inv-loop μ-loop loop-holds get-requires run-edge-requires add-slot loop-less loop-again returns)
+    (tie.spec Inv-loop μ-loop loop-holds slice-aggregate-get get-requires run-edge-requires add-slot loop-less loop-again returns)

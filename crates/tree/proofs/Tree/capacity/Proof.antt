@@ -1,12 +1,15 @@
--- `tree::Tree::capacity` meets its contract: 2 ^ 10 is 1024. Assumes nothing.
-use mathlib.Core.Path.{refl}
+-- `tree::Tree::capacity` meets its contract: the capacity of its size. Assumes nothing.
+use borrow.Author.Needs.{needs}
 use Rattle.slots.specs.Calls.{capacity}
 use Rattle.tree.proofs.Tree.capacity.Statement.{statement}
 use Rattle.tree.proofs.Tree.capacity.Tie as tie
 
+capacity-requires : tie.Need-capacity-requires
+capacity-requires c κs = search needs
+
 returns : tie.Need-returns
 unfolding capacity
-returns c = refl
+returns c = c .capacity .ensures
 
 pub capacity-spec : {M : Type 1} → statement M
-capacity-spec = tie.close (tie.spec returns)
+capacity-spec = tie.close (tie.spec capacity-requires returns)

@@ -4,12 +4,15 @@ use borrow.Author.Needs.{needs}
 use Rattle.slots.specs.Promises.{free-after}
 use Rattle.tree.specs.Layout.{slotOf}
 use Rattle.tree.proofs.Values.{is-tree}
-use Rattle.tree.proofs.Outcomes.{carries, with-map}
+use Rattle.tree.proofs.Outcomes.{carries}
 use Rattle.tree.proofs.Tree.free.Statement.{statement}
 use Rattle.tree.proofs.Tree.free.Tie as tie
 
-judged-free-requires : tie.Need-judged-free-requires
-judged-free-requires c κs = search needs
+slice-aggregate-judged-change : tie.Need-slice-aggregate-judged-change
+slice-aggregate-judged-change c = search needs
+
+judged-change-requires : tie.Need-judged-change-requires
+judged-change-requires c κs = search needs
 
 carried-out-requires : tie.Need-carried-out-requires
 carried-out-requires c κs = search needs
@@ -20,7 +23,7 @@ returns c =
     let entry = judging .before .before .before in
     let asked = entry .args in
     let t = asked .self in
-    carries t _ _ (is-tree t (entry .good .0)) (asked .start) (asked .n) false (free-after 10 (slotOf t) (asked .start) (asked .n)) (judging .judged-free .result) (judging .judged-free .ensures) (with-map _ _ _ (c .carried-out .ensures))
+    carries t (is-tree t (entry .good .0)) _ (asked .start) (asked .n) false (free-after 10 (slotOf t) (asked .start) (asked .n)) (judging .judged-change .result) (judging .judged-change .ensures) _ (c .carried-out .ensures)
 
 pub free-spec : {M : Type 1} → statement M
-free-spec = tie.close (tie.spec judged-free-requires carried-out-requires returns)
+free-spec = tie.close (tie.spec slice-aggregate-judged-change judged-change-requires carried-out-requires returns)

@@ -1,16 +1,20 @@
 -- `tree::Tree::take` meets its contract: what was judged, carried out. Assumes nothing.
-use mathlib.Core.Path.{refl}
+use mathlib.Core.Path.{sym}
 use mathlib.Core.Bool.{true}
 use borrow.Author.Needs.{needs}
 use Rattle.answers.proofs.Judging.{told-at, told-refused}
+use Rattle.answers.specs.Refusals.{numberOf}
 use Rattle.answers.specs.declared.Answer.the-variants.{At}
 use Rattle.slots.specs.Calls.{takeCall}
-use Rattle.slots.specs.View.{answered}
+use Rattle.slots.specs.View.{answered, says-refused}
 use Rattle.tree.specs.Layout.{treeView, slotOf}
 use Rattle.tree.proofs.Values.{is-tree}
-use Rattle.tree.proofs.Outcomes.{refusing, carries, with-map, take-paints}
+use Rattle.tree.proofs.Outcomes.{carries, take-paints}
 use Rattle.tree.proofs.Tree.take.Statement.{statement}
 use Rattle.tree.proofs.Tree.take.Tie as tie
+
+slice-aggregate-judged-take : tie.Need-slice-aggregate-judged-take
+slice-aggregate-judged-take c = search needs
 
 judged-take-requires : tie.Need-judged-take-requires
 judged-take-requires c κs = search needs
@@ -30,8 +34,9 @@ returns c =
     let judging = known .before .before in
     let asked = judging .before .before .before .args in
     let t = asked .self in
+    let call = takeCall 10 (slotOf t) (asked .n) (asked .a) in
     let why = known .found .given .0 .0 in
-    refusing t _ _ why refl (told-refused (judging .judged-take .result) (answered treeView t (takeCall 10 (slotOf t) (asked .n) (asked .a))) (judging .judged-take .ensures) why (known .found .given .1))
+    sym (says-refused treeView t call (numberOf why) (told-refused (judging .judged-take .result) (answered treeView t call) (judging .judged-take .ensures) why (known .found .given .1)))
 
 returns-2 : tie.Need-returns-2
 returns-2 c =
@@ -40,11 +45,12 @@ returns-2 c =
     let entry = judging .before .before .before in
     let asked = entry .args in
     let t = asked .self in
+    let call = takeCall 10 (slotOf t) (asked .n) (asked .a) in
     let start = known .found2 .given .0 .0 in
-    let told = told-at (judging .judged-take .result) (answered treeView t (takeCall 10 (slotOf t) (asked .n) (asked .a))) (judging .judged-take .ensures) start (known .found2 .given .1) in
-    carries t _ _ (is-tree t (entry .good .0)) start (asked .n) true (take-paints t (asked .n) (asked .a) start told) (At start) told (with-map _ _ _ (c .carried-out .ensures))
+    let told = told-at (judging .judged-take .result) (answered treeView t call) (judging .judged-take .ensures) start (known .found2 .given .1) in
+    carries t (is-tree t (entry .good .0)) call start (asked .n) true (take-paints t (asked .n) (asked .a) start told) (At start) told _ (c .carried-out .ensures)
 
 pub take-spec : {M : Type 1} → statement M
 take-spec =
     tie.close
-    (tie.spec judged-take-requires enum-known-found enum-known-found-2 carried-out-requires returns returns-2)
+    (tie.spec slice-aggregate-judged-take judged-take-requires enum-known-found enum-known-found-2 carried-out-requires returns returns-2)

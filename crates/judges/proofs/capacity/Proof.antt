@@ -1,0 +1,19 @@
+-- `judges::capacity` meets its contract: 2 to the exponent of each size. Assumes nothing.
+use borrow.Author.Needs.{needs}
+use Rattle.judges.proofs.capacity.Statement.{statement}
+use Rattle.judges.proofs.capacity.Tie as tie
+
+enum-told : tie.Need-enum-told
+enum-told c = search needs
+
+enum-told-2 : tie.Need-enum-told-2
+enum-told-2 c = search needs
+
+returns : tie.Need-returns
+returns c = rw (c .enum-told .given .1)
+
+returns-2 : tie.Need-returns-2
+returns-2 c = rw (c .enum-told2 .given .1)
+
+pub capacity-spec : {M : Type 1} → statement M
+capacity-spec = tie.close (tie.spec enum-told enum-told-2 returns returns-2)

@@ -1,2 +1,0 @@
-pub mod Painting
-pub mod Sixteen

@@ -1,0 +1,371 @@
+-- What the loops over the words come to: the reasons behind `rows`. Assumes nothing.
+use mathlib.Core.Path.{_≡_, sym, ap, ap₂, _∙_}
+use mathlib.Core.Logic.{_↔_}
+use mathlib.Core.Bool.{Bool, true, false, not, _&&_, _||_}
+use mathlib.Core.List.{List}
+use Prim.Native.Nat.{ℕ, suc, _+_, _-_, _*_, _/_, _%_, _^_, _≤_, _<_, zero-le, min}
+use native.Mathlib.Nat.{lt-of-le-of-lt, mod-eq-of-lt, zero-add, lt-of-not-le, min-eq-left, le-refl, le-trans, le-of-lt}
+use native.Mathlib.Omega.{arith}
+use mir.Val.{boolByte}
+use lib.ListN.{length, getD, set, List·getD-eq-default}
+use lib.Bits.{bitOr, bitAnd, or-lt, and-le-l}
+use lib.Dec.{T, leb, ltb, eqb, leb→le, le→leb, ltb→lt, lt→ltb}
+use lib.Pow.{pow-pos, pow-lt}
+use borrow.Author.Tests.{lt-ltb, le-ltb, lt-leb, le-leb, eq-eqb, ne-eqb, ltb-true, ltb-false, eqb-true, eqb-false, leb-true, not-true, not-false}
+use Rattle.bits.specs.Range.{bit, and-true, and-false, or-true, or-false, either, same-test, within, finds-every, least, least-is, least-none, least-from, least-passes, least-first, count, count-agree, count-most, count-split, count-moved}
+use Rattle.bits.specs.Digits.{digit, number, digit-number, number-is, number-agree, number-lt, zero-digit, and-digit, or-digit, up-digit, bit-digit, power-digit, complement-digit, read-digit}
+use Rattle.slots.specs.Sets.{Slots, allFree, allUsed, finds-all-free, finds-all-used, finds-some-free, finds-some-used}
+use Rattle.slots.specs.Lowest.{freeFrom}
+use Rattle.places.specs.Places.{runMask, usedIn, paintedIn}
+use Rattle.rows.specs.Rows.{usedWord, partWords, withBit}
+use Rattle.rows.specs.Painting.{slotsIn, slotIn, slots-most, slot-there, slot-past, slot-in-word, endIn, partMask, reaches, paintedFirst, paint-on, paint-ahead, paint-rest}
+
+-- ---- a number whose places are set one after the other
+
+-- the first i places as f has them, and no other
+abbrev pub firstPlaces : (ℕ → Bool) → ℕ → ℕ → ℕ
+firstPlaces f w i = number (λ p. ltb p i && f p) w
+
+pub no-places : (f : ℕ → Bool) (w : ℕ) → 0 ≡ firstPlaces f w 0
+no-places f w = number-is w 0 _ (pow-pos w) (λ p l. zero-digit p ∙ ap (λ (b : Bool). b && f p) (sym (le-ltb p 0 zero-le)))
+
+-- a word of a part is one of the words, and there are sixteen at most
+pub part-there : (words : List ℕ) (i : ℕ) → i < partWords words → (i < length words) × (i < 16)
+unfolding partWords
+part-there words i l = (omega arith, omega arith)
+
+pub part-most : (words : List ℕ) → partWords words ≤ 16
+unfolding partWords
+part-most words = omega arith
+
+-- a word past the part's last is 0, so the places of the part's words are all
+pub part-places : (words : List ℕ) → firstPlaces (usedWord words) 16 (partWords words) ≡ number (usedWord words) 16
+unfolding partWords
+part-places words = number-agree _ (usedWord words) 16 (λ p l.
+    either (ltb p (partWords words)) (λ t. ap (λ (b : Bool). b && usedWord words p) t)
+    (λ t. let past = ltb-false p (partWords words) t in
+    ap (λ (b : Bool). b && usedWord words p) t
+    ∙ sym (ap (λ (w : ℕ). not (eqb w 0)) (List·getD-eq-default words 0 {n = p} (omega arith)))))
+
+joined : (f : ℕ → Bool) (i p : ℕ) → ltb p i && f p || leb i p && (eqb (p - i) 0 && f i) ≡ ltb p (i + 1) && f p
+joined f i p =
+    either (ltb p i) (λ e. let l = ltb-true p i e in rw (e, lt-leb i p l, lt-ltb p (i + 1) (omega arith)) (or-false (f p)))
+    (λ e. let l = ltb-false p i e in
+    either (eqb p i)
+    (λ s. let same = eqb-true p i s in rw (e, le-leb i p l, eq-eqb (p - i) 0 (omega arith), lt-ltb p (i + 1) (omega arith)) (ap f (sym same)))
+    (λ s. let other = eqb-false p i s in rw (e, le-leb i p l, ne-eqb (p - i) 0 (λ h. other (omega arith)), le-ltb p (i + 1) (above p i l other))))
+  where
+    above : (p i : ℕ) → i ≤ p → (p ≡ i → ⊥) → i + 1 ≤ p
+    above p i l other = let past : i < p = lt-of-not-le (λ h. other (omega arith)) in omega arith
+
+placed : (b : Bool) (w i : ℕ) → i < w → bit b * 2 ^ i < 2 ^ w
+placed true w i l = omega (arith, pow-lt l)
+placed false w i l = omega (arith, pow-pos w)
+
+-- a 1 or a 0, moved up by the machine
+pub shifted-bit : (b : Bool) (w i : ℕ) → i < w → boolByte b * 2 ^ i % 2 ^ w ≡ bit b * 2 ^ i
+shifted-bit true w i l = mod-eq-of-lt (placed true w i l)
+shifted-bit false w i l = mod-eq-of-lt (placed false w i l)
+
+pub next-place : (f : ℕ → Bool) (w i : ℕ) → i < w → bitOr (firstPlaces f w i) (bit (f i) * 2 ^ i) ≡ firstPlaces f w (i + 1)
+next-place f w i l = number-is w _ _ (or-lt w _ _ (number-lt _ w) (placed (f i) w i l)) (λ p m.
+    or-digit (firstPlaces f w i) (bit (f i) * 2 ^ i) p
+    ∙ ap₂ (λ (b c : Bool). b || c) (digit-number _ w p m) (up-digit (bit (f i)) i p ∙ ap (λ (b : Bool). leb i p && b) (bit-digit (f i) (p - i)))
+    ∙ joined f i p)
+
+-- ---- a summary brought up to date place by place
+
+-- a place cleared and then set as v has it
+pub replaced : (summary i : ℕ) (v : Bool) → summary < 2 ^ 16 → i < 16
+    → bitOr (bitAnd summary ((2 ^ 16 - 1) - 2 ^ i)) (bit v * 2 ^ i) ≡ withBit summary v i
+unfolding withBit
+replaced summary i v held l = number-is 16 _ _ (or-lt 16 _ _ (lt-of-le-of-lt (and-le-l summary _) held) (placed v 16 i l)) (λ p m.
+    or-digit (bitAnd summary ((2 ^ 16 - 1) - 2 ^ i)) (bit v * 2 ^ i) p
+    ∙ ap₂ (λ (b c : Bool). b || c)
+    (and-digit summary _ p ∙ ap (λ (b : Bool). digit summary p && b) (complement-digit 16 (2 ^ i) p (pow-lt l) m ∙ ap not (power-digit i p)))
+    (up-digit (bit v) i p ∙ ap (λ (b : Bool). leb i p && b) (bit-digit v (p - i)))
+    ∙ chosen p)
+  where
+    chosen : (p : ℕ) → digit summary p && not (eqb p i) || leb i p && (eqb (p - i) 0 && v) ≡ elim (eqb p i) [ true ↦ v | false ↦ digit summary p ]
+    chosen p =
+        either (eqb p i)
+        (λ e. let same = eqb-true p i e in rw (e, and-false (digit summary p), le-leb i p (omega arith), eq-eqb (p - i) 0 (omega arith)))
+        (λ e. let other = eqb-false p i e in
+        either (leb i p)
+        (λ t. rw (e, t, ne-eqb (p - i) 0 (λ h. other (omega (arith, leb-true i p t, h))), and-true (digit summary p)) (or-false (digit summary p)))
+        (λ t. rw (e, t, and-true (digit summary p)) (or-false (digit summary p))))
+
+-- the reached bits of the words below i are up to date
+abbrev pub touchedFirst : List ℕ → ℕ → ℕ → ℕ → ℕ → ℕ
+touchedFirst words summary s e i = number (λ p. elim (reaches s e p && ltb p i) [ true ↦ usedWord words p | false ↦ digit summary p ]) 16
+
+module _ (words : List ℕ) (summary s e : ℕ) where
+  abbrev place-as : ℕ → Bool → Bool
+  place-as p done = elim done [ true ↦ usedWord words p | false ↦ digit summary p ]
+
+  abbrev picked : ℕ → ℕ → Bool → Bool
+  picked i p here = elim here [ true ↦ usedWord words i | false ↦ digit (touchedFirst words summary s e i) p ]
+
+  pub touch-none : summary < 2 ^ 16 → (i : ℕ) → i ≤ s / 64 → summary ≡ touchedFirst words summary s e i
+  touch-none held i l = number-is 16 summary _ held (λ p m. sym (ap (place-as p) (unreached p)))
+    where
+      unreached : (p : ℕ) → reaches s e p && ltb p i ≡ false
+      unreached p =
+          either (ltb p i) (λ t. rw (lt-leb (s / 64) p (omega (arith, ltb-true p i t)))) (λ t. rw (t, and-false (reaches s e p)))
+
+  pub touch-on : (i : ℕ) → s / 64 ≤ i → i * 64 < e → withBit (touchedFirst words summary s e i) (usedWord words i) i ≡ touchedFirst words summary s e (i + 1)
+  unfolding withBit
+  touch-on i l h = number-agree _ _ 16 (λ p m. either (eqb p i) (λ t. at-place p t) (λ t. elsewhere p m t))
+    where
+      below : (p : ℕ) → (p ≡ i → ⊥) → p < i + 1 → p < i
+      below p other b = lt-of-not-le (λ g. other (omega arith))
+
+      at-place : (p : ℕ) → eqb p i ≡ true → picked i p (eqb p i) ≡ place-as p (reaches s e p && ltb p (i + 1))
+      at-place p t =
+          let same = eqb-true p i t in
+          let now : reaches s e p && ltb p (i + 1) ≡ true = rw (le-leb (s / 64) p (omega arith), lt-ltb (p * 64) e (omega arith), lt-ltb p (i + 1) (omega arith)) in
+          ap (picked i p) t ∙ ap (usedWord words) (sym same) ∙ sym (ap (place-as p) now)
+
+      elsewhere : (p : ℕ) → p < 16 → eqb p i ≡ false → picked i p (eqb p i) ≡ place-as p (reaches s e p && ltb p (i + 1))
+      elsewhere p m t =
+          let other = eqb-false p i t in
+          ap (picked i p) t ∙ digit-number (λ q. place-as q (reaches s e q && ltb q i)) 16 p m
+          ∙ ap (λ (b : Bool). place-as p (reaches s e p && b))
+          (same-test (ltb p i) (ltb p (i + 1)) (λ a. lt→ltb p (i + 1) (omega (arith, ltb→lt p i a))) (λ a. lt→ltb p i (below p other (ltb→lt p (i + 1) a))))
+
+  pub touch-all : (i : ℕ) → e ≤ i * 64 → touchedFirst words summary s e i ≡ number (λ p. elim (reaches s e p) [ true ↦ usedWord words p | false ↦ digit summary p ]) 16
+  touch-all i h = number-agree _ _ 16 (λ p m. ap (place-as p) (whole p))
+    where
+      whole : (p : ℕ) → reaches s e p && ltb p i ≡ reaches s e p
+      whole p =
+          either (ltb p i) (λ t. rw (t, and-true (reaches s e p)))
+          (λ t. rw (t, and-false (reaches s e p), le-ltb (p * 64) e (omega (arith, ltb-false p i t))) (sym (and-false (leb (s / 64) p))))
+
+-- ---- slots counted word by word
+
+pub word-most : (word r : ℕ) → r ≡ count (digit word) 0 64 → r ≤ 64
+word-most word r e = rw e (count-most (digit word) 0 64)
+
+pub count-next : (words : List ℕ) (i : ℕ) → i * 64 < slotsIn words
+    → count (slotIn words) 0 (i * 64) + count (digit (getD words i 0)) 0 64 ≡ count (slotIn words) 0 ((i + 1) * 64)
+count-next words i h =
+    ap (λ (n : ℕ). count (slotIn words) 0 (i * 64) + n)
+    (sym (ap (λ (s : ℕ). count (slotIn words) s 64) (zero-add (i * 64))
+    ∙ count-moved (slotIn words) (i * 64) 64
+    ∙ count-agree _ (digit (getD words i 0)) 0 64 (λ s _ l. slot-in-word words i s h (omega arith))))
+    ∙ sym (count-split (slotIn words) 0 (i * 64) 64)
+    ∙ ap (count (slotIn words) 0) (omega arith)
+
+-- ---- the first free slot, word by word
+
+-- slot p of the whole, seen in word i
+seen : (words : List ℕ) (i p : ℕ) → i * 64 < slotsIn words → i * 64 ≤ p → p < (i + 1) * 64 → slotIn words p ≡ digit (getD words i 0) (p - i * 64)
+seen words i p h l b = ap (slotIn words) (omega arith) ∙ slot-in-word words i (p - i * 64) h (omega arith)
+
+module _ (words : List ℕ) (start place : ℕ) (inside : start < slotsIn words) (told : place ≡ freeFrom 6 (digit (getD words (start / 64) 0)) (start % 64)) where
+  abbrev word : ℕ
+  word = getD words (start / 64) 0
+
+  here : start / 64 * 64 < slotsIn words
+  here = omega arith
+
+  place-is : place ≡ least (λ i. not (digit word i)) (start % 64) (64 - start % 64)
+  unfolding freeFrom
+  place-is = told ∙ ap (λ (s : ℕ). least (λ i. not (digit word i)) s (64 - start % 64)) (min-eq-left (omega arith))
+
+  -- each slot of the word from the start on is used, up to the place
+  used-before : (p : ℕ) → start ≤ p → p < (start / 64 + 1) * 64 → p < start / 64 * 64 + place → slotIn words p ≡ true
+  used-before p l b m =
+      seen words (start / 64) p here (omega arith) b
+      ∙ not-false _ (least-first (λ i. not (digit word i)) (start % 64) (64 - start % 64) (p - start / 64 * 64) (omega arith) (rw (sym place-is) (omega arith)))
+
+  pub word-full : 64 ≤ place → (p : ℕ) → start ≤ p → p < (start / 64 + 1) * 64 → slotIn words p ≡ true
+  word-full h p l b = used-before p l b (omega arith)
+
+  pub word-has : place < 64 → (p : ℕ) → start ≤ p → p < start / 64 * 64 + place → slotIn words p ≡ true
+  word-has h p l m = used-before p l (omega arith) m
+
+  pub word-from : start ≤ start / 64 * 64 + place
+  word-from = omega (arith, place-is, least-from (λ i. not (digit word i)) (start % 64) (64 - start % 64))
+
+  pub word-free : place < 64 → slotIn words (start / 64 * 64 + place) ≡ false
+  word-free h =
+      slot-in-word words (start / 64) place here h
+      ∙ not-true _ (rw place-is (least-passes (λ i. not (digit word i)) (start % 64) (64 - start % 64) (rw (sym place-is) (omega arith))))
+
+-- from the end of the greatest row on the answer is that end
+pub far-from : (words : List ℕ) (from : ℕ) → 16384 ≤ from → 16384 ≡ freeFrom 14 (slotIn words) from
+unfolding freeFrom
+far-from words from far =
+    sym (least-none (λ i. not (slotIn words i)) (min from 16384) (16384 - from) (λ p f h. absurd (omega arith)) ∙ omega arith)
+
+-- each slot from `from` to the start is used
+pub record Passed (words : List ℕ) (from start : ℕ) : Type 0 where
+  pub later : from ≤ start
+  pub near : start ≤ 16384
+  pub used : (p : ℕ) → from ≤ p → p < start → slotIn words p ≡ true
+
+pub passed-none : (words : List ℕ) (from : ℕ) → from < 16384 → Passed words from from
+passed-none words from near = record { later = le-refl from; near = le-of-lt near; used = λ p l b. absurd (omega arith) }
+
+module _ (words : List ℕ) (from start : ℕ) (passed : Passed words from start) where
+  pub passed-on : (next : ℕ) → start ≤ next → next ≤ 16384 → ((p : ℕ) → start ≤ p → p < next → slotIn words p ≡ true) → Passed words from next
+  passed-on next l near more = record {
+    later = le-trans (passed .later) l;
+    near = near;
+    used = λ p f b. either (ltb p start) (λ e. passed .used p f (ltb-true p start e)) (λ e. more p (ltb-false p start e) b);
+  }
+
+  pub passed-found : (r : ℕ) → start ≤ r → r < 16384 → slotIn words r ≡ false → ((p : ℕ) → start ≤ p → p < r → slotIn words p ≡ true) → r ≡ freeFrom 14 (slotIn words) from
+  unfolding freeFrom
+  passed-found r l b free more =
+      let all = passed-on r l (le-of-lt b) more in
+      let low = le-trans (passed .later) l in
+      let near : from ≤ 16384 = omega arith in
+      sym (rw (min-eq-left near)
+      (least-is (λ i. not (slotIn words i)) from (16384 - from) r low (omega arith) (ap not free) (λ p f h. ap not (all .used p f h))))
+
+  -- past the words every slot is free
+  pub passed-all : slotsIn words ≤ start → start ≡ freeFrom 14 (slotIn words) from
+  unfolding freeFrom
+  passed-all past =
+      either (ltb start 16384)
+      (λ t. passed-found start (le-refl start) (ltb-true start 16384 t) (slot-past words start past) (λ p l b. absurd (omega arith)))
+      (λ t. let last = ltb-false start 16384 t in
+      let low = passed .later in
+      let near = passed .near in
+      sym (least-none (λ i. not (slotIn words i)) (min from 16384) (16384 - from) (λ p f h. ap not (passed .used p (omega arith) (omega arith))) ∙ omega arith))
+
+-- ---- a run asked slot by slot
+
+-- each slot from s up to i has the value v
+abbrev pub HasTo : Bool → List ℕ → ℕ → ℕ → Type 0
+HasTo v words s i = (p : ℕ) → s ≤ p → p < i → slotIn words p ≡ v
+
+pub has-none : (v : Bool) (words : List ℕ) (s : ℕ) → HasTo v words s s
+has-none v words s p f b = absurd (omega arith)
+
+pub has-on : (v : Bool) (words : List ℕ) (s i : ℕ) → HasTo v words s i → slotIn words i ≡ v → HasTo v words s (i + 1)
+has-on v words s i before here p f b = either (ltb p i) (λ t. before p f (ltb-true p i t)) (λ t. let last = ltb-false p i t in ap (slotIn words) (omega arith) ∙ here)
+
+pub run-used-at : (S : Slots) (s n p : ℕ) → s ≤ p → p < s + n → S p ≡ true → false ≡ allFree S s n
+run-used-at S s n p l b used = sym (not-true (allFree S s n) (same-test (not (allFree S s n)) true (λ _. tt) (λ _. finds-some-used S s n .1 (p, (l, b), used))))
+
+-- free up to the run's end among the words: past them each slot is free
+pub run-all-free : (words : List ℕ) (s n i : ℕ) → endIn (slotsIn words) s n ≤ i → HasTo false words s i → true ≡ allFree (slotIn words) s n
+unfolding endIn
+run-all-free words s n i ends free =
+    same-test true (allFree (slotIn words) s n)
+    (λ _. finds-all-free (slotIn words) s n .1 (λ p h.
+    either (ltb p i) (λ t. free p (h .0) (ltb-true p i t)) (λ t. let past = ltb-false p i t in slot-past words p (omega (arith, h .1))))) (λ _. tt)
+
+-- a slot of the words, as the machine reads it
+pub read-slot : (words : List ℕ) (s : ℕ) → s < slotsIn words → eqb (getD words (s / 64) 0 / 2 ^ (s % 64) % 2) 1 ≡ slotIn words s
+read-slot words s l = read-digit (getD words (s / 64) 0) (s % 64) ∙ sym (slot-there words s l)
+
+pub before-end : (slots s n e : ℕ) → e ≡ endIn slots s n → (e ≤ slots) × ((i : ℕ) → i < e → i < s + n)
+unfolding endIn
+before-end slots s n e is = (rw is (omega arith), λ i l. omega (arith, is))
+
+-- ---- the part of a run that lies in one word
+
+agree-leb : (a b c d : ℕ) → (a ≤ b → c ≤ d) → (c ≤ d → a ≤ b) → leb a b ≡ leb c d
+agree-leb a b c d f g = same-test (leb a b) (leb c d) (λ t. le→leb c d (f (leb→le a b t))) (λ t. le→leb a b (g (leb→le c d t)))
+
+module _ (s e i : ℕ) where
+  part-of : (lo n : ℕ) → ((p : ℕ) → leb lo p ≡ leb s (i * 64 + p)) → ((p : ℕ) → ltb p (lo + n) ≡ ltb (i * 64 + p) e) → runMask lo n ≡ partMask s e i
+  unfolding runMask partMask within
+  part-of lo n below above = number-agree _ _ 64 (λ p l. ap₂ (λ (b c : Bool). b && c) (below p) (above p))
+
+  pub part-to-end : s ≤ i * 64 → i * 64 < e → runMask 0 (e - i * 64) ≡ partMask s e i
+  part-to-end l m =
+      part-of 0 (e - i * 64) (λ p. agree-leb 0 p s (i * 64 + p) (λ h. omega arith) (λ h. omega arith))
+      (λ p. agree-leb (suc p) (0 + (e - i * 64)) (suc (i * 64 + p)) e (λ h. omega arith) (λ h. omega arith))
+
+  pub part-inside : i * 64 ≤ s → s ≤ e → runMask (s - i * 64) (e - s) ≡ partMask s e i
+  part-inside l m =
+      part-of (s - i * 64) (e - s) (λ p. agree-leb (s - i * 64) p s (i * 64 + p) (λ h. omega arith) (λ h. omega arith))
+      (λ p. agree-leb (suc p) (s - i * 64 + (e - s)) (suc (i * 64 + p)) e (λ h. omega arith) (λ h. omega arith))
+
+  pub part-none : e ≤ s → 0 ≡ partMask s e i
+  unfolding partMask
+  part-none l = number-is 64 0 _ (pow-pos 64) (λ p _. zero-digit p ∙ sym (none p))
+    where
+      none : (p : ℕ) → leb s (i * 64 + p) && ltb (i * 64 + p) e ≡ false
+      none p = either (ltb (i * 64 + p) e) (λ t. let b = ltb-true (i * 64 + p) e t in rw (lt-leb s (i * 64 + p) (omega arith)))
+          (λ t. rw t (and-false (leb s (i * 64 + p))))
+
+-- ---- painting word by word
+
+module _ (words : List ℕ) (s e : ℕ) (v : Bool) where
+  -- one word of the loop that paints: what it read, masked and wrote
+  pub paint-step : (now : List ℕ) (i end mask left : ℕ) → s / 64 ≤ i → i * 64 < end → now ≡ paintedFirst words s e v i → end ≡ e → mask ≡ partMask s end i
+      → left ≡ paintedIn (getD now i 0) mask v → set now i left ≡ paintedFirst words s e v (i + 1)
+  paint-step now i end mask left l h so-far ends masked wrote =
+      ap₂ (λ (ws : List ℕ) (x : ℕ). set ws i x) so-far
+      (wrote ∙ ap₂ (λ (x m : ℕ). paintedIn x m v) (ap (λ (ws : List ℕ). getD ws i 0) so-far ∙ paint-ahead words s e v i i (le-refl i)) (masked ∙ ap (λ (n : ℕ). partMask s n i) ends))
+      ∙ paint-on words s e v i l (rw (sym ends) h)
+
+  -- past the run's end nothing is left to paint, of whatever words there are
+  pub paint-past : (i : ℕ) → e ≤ i * 64 → e ≤ 16384 → paintedFirst words s e v i ≡ paintedFirst words s e v 256
+  paint-past i past most =
+      either (ltb i 256)
+      (λ t. let below = ltb-true i 256 t in paint-rest words s e v i (256 - i) past ∙ ap (paintedFirst words s e v) (omega arith))
+      (λ t. let above = ltb-false i 256 t in sym (paint-rest words s e v 256 (i - 256) most ∙ ap (paintedFirst words s e v) (omega arith)))
+
+pub ends-within : (words : List ℕ) (s n : ℕ) → endIn (slotsIn words) s n ≤ 16384
+unfolding endIn
+ends-within words s n = omega (arith, slots-most words)
+
+-- ---- a run asked word by word
+
+pub run-free-at : (S : Slots) (s n p : ℕ) → s ≤ p → p < s + n → S p ≡ false → false ≡ allUsed S s n
+run-free-at S s n p l b free = sym (not-true (allUsed S s n) (same-test (not (allUsed S s n)) true (λ _. tt) (λ _. finds-some-free S s n .1 (p, (l, b), free))))
+
+pub run-all-used : (S : Slots) (s n : ℕ) → ((p : ℕ) → s ≤ p → p < s + n → S p ≡ true) → true ≡ allUsed S s n
+run-all-used S s n used = same-test true (allUsed S s n) (λ _. finds-all-used S s n .1 (λ p h. used p (h .0) (h .1))) (λ _. tt)
+
+module _ (words : List ℕ) (s e i : ℕ) (here : i * 64 < slotsIn words) where
+  in-mask : (p : ℕ) → p < 64 → digit (partMask s e i) p ≡ leb s (i * 64 + p) && ltb (i * 64 + p) e
+  unfolding partMask
+  in-mask p l = digit-number _ 64 p l
+
+  asked-of-word : T (usedIn (getD words i 0) (partMask s e i)) ↔ ((p : ℕ) → p < 64 → s ≤ i * 64 + p → i * 64 + p < e → digit (getD words i 0) p ≡ true)
+  unfolding usedIn
+  asked-of-word =
+      let found = finds-every (λ p. not (digit (partMask s e i) p) || digit (getD words i 0) p) 0 64 in (
+        λ t p l f b. rw (in-mask p l, le-leb s (i * 64 + p) f, lt-ltb (i * 64 + p) e b) at (found .0 t p zero-le (omega arith)),
+        λ all. found .1 (λ p _ l. let m : p < 64 = omega arith in
+            either (leb s (i * 64 + p))
+            (λ f. either (ltb (i * 64 + p) e)
+            (λ b. rw (all p m (leb-true s (i * 64 + p) f) (ltb-true (i * 64 + p) e b)) (or-true (not (digit (partMask s e i) p))))
+            (λ b. rw (in-mask p m, b, and-false (leb s (i * 64 + p)))))
+            (λ f. rw (in-mask p m, f))),
+      )
+
+  word-used : (flag : Bool) → flag ≡ usedIn (getD words i 0) (partMask s e i) → flag ≡ true → (p : ℕ) → s ≤ p → p < e → i * 64 ≤ p → p < (i + 1) * 64 → slotIn words p ≡ true
+  word-used flag told yes-flag p f b l h =
+      seen words i p here l h ∙ asked-of-word .0 (rw (sym told ∙ yes-flag) tt) (p - i * 64) (omega arith) (omega arith) (omega arith)
+
+  word-not-used : (flag : Bool) → flag ≡ usedIn (getD words i 0) (partMask s e i) → flag ≡ false → ((p : ℕ) → s ≤ p → p < e → slotIn words p ≡ true) → ⊥
+  word-not-used flag told no-flag used =
+      rw (sym told ∙ no-flag) at (asked-of-word .1 (λ p l f b. sym (slot-in-word words i p here l) ∙ used (i * 64 + p) f b))
+
+-- each slot of the run before word i is used
+abbrev pub UsedTo : List ℕ → ℕ → ℕ → ℕ → Type 0
+UsedTo words s e i = (p : ℕ) → s ≤ p → p < e → p < i * 64 → slotIn words p ≡ true
+
+pub used-none : (words : List ℕ) (s e : ℕ) → UsedTo words s e (s / 64)
+used-none words s e p f b l = absurd (omega arith)
+
+pub used-on : (words : List ℕ) (s e i : ℕ) → i * 64 < slotsIn words → (flag : Bool) → flag ≡ usedIn (getD words i 0) (partMask s e i) → flag ≡ true
+    → UsedTo words s e i → UsedTo words s e (i + 1)
+used-on words s e i here flag told yes-flag before p f b l =
+    either (ltb p (i * 64)) (λ t. before p f b (ltb-true p (i * 64) t))
+    (λ t. word-used words s e i here flag told yes-flag p f b (ltb-false p (i * 64) t) l)
+
+pub run-not-used : (words : List ℕ) (s n i : ℕ) → i * 64 < slotsIn words → (flag : Bool) → flag ≡ usedIn (getD words i 0) (partMask s (s + n) i) → flag ≡ false
+    → false ≡ allUsed (slotIn words) s n
+run-not-used words s n i here flag told no-flag =
+    same-test false (allUsed (slotIn words) s n) (λ t. absurd t)
+    (λ t. word-not-used words s (s + n) i here flag told no-flag (λ p f b. finds-all-used (slotIn words) s n .0 t p (f, b)))

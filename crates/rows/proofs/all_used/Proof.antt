@@ -1,0 +1,121 @@
+-- `rows::all_used` meets its contract: before each word, the run's slots in the words before it are used. Assumes nothing.
+use mathlib.Core.Path.{sym, ap, _∙_}
+use Prim.Native.Nat.{_+_, _-_, _*_, _/_, _≤_, _<_}
+use native.Mathlib.Nat.{pos-of-ne-zero}
+use native.Mathlib.Omega.{arith}
+use lib.ListN.{getD}
+use borrow.Author.Needs.{needs}
+use borrow.Author.Tests.{not-true, not-false}
+use Rattle.places.specs.Places.{usedIn}
+use Rattle.rows.specs.Painting.{slotsIn, slotIn, slots-most, slot-past, word-there}
+use Rattle.rows.proofs.Reasons.{UsedTo, used-none, used-on, run-not-used, run-free-at, run-all-used}
+use Rattle.rows.proofs.all_used.Statement.{statement}
+use Rattle.rows.proofs.all_used.Tie as tie
+
+abbrev Inv-loop : tie.InvT-loop
+Inv-loop words start n held end i₀ i = (start / 64 ≤ i) × (i ≤ 256) × UsedTo words start (start + n) i
+
+abbrev μ-loop : tie.MeasureT-loop
+μ-loop words start n held end i₀ i = 256 - i
+
+returns : tie.Need-returns Inv-loop μ-loop
+returns c =
+    let asked = c .before .before .args in
+    run-all-used (slotIn (asked .words .now)) (asked .start) (asked .n) (λ p l b. absurd (omega (arith, c .if1 .taken)))
+
+slots-requires : tie.Need-slots-requires Inv-loop μ-loop
+slots-requires c κs = search needs
+
+returns-2 : tie.Need-returns-2 Inv-loop μ-loop
+returns-2 c =
+    let known = c .before in
+    let asked = known .before .before .before .args in
+    let some : 0 < asked .n = pos-of-ne-zero (known .before .if1 .left) in
+    run-free-at (slotIn (asked .words .now)) (asked .start) (asked .n) (asked .start) (omega arith) (omega arith)
+    (slot-past (asked .words .now) (asked .start) (rw (sym (known .slots .ensures)) (c .if2 .taken)))
+
+sub-if3 : tie.Need-sub-if3 Inv-loop μ-loop
+sub-if3 c = search needs
+
+returns-3 : tie.Need-returns-3 Inv-loop μ-loop
+returns-3 c =
+    let known = c .before .before in
+    let asked = known .before .before .before .args in
+    let held = known .slots .result in
+    run-free-at (slotIn (asked .words .now)) (asked .start) (asked .n) held (omega arith) (omega arith)
+    (slot-past (asked .words .now) held (omega (arith, known .slots .ensures)))
+
+add-end : tie.Need-add-end Inv-loop μ-loop
+add-end c = let known = c .before .before in omega (arith, known .slots .ensures, slots-most (known .before .before .before .args .words .now))
+
+loop-holds : tie.Need-loop-holds Inv-loop μ-loop
+loop-holds c =
+    let known = c .before .before in
+    let asked = known .before .before .before .args in
+    (omega arith, omega (arith, known .slots .ensures, slots-most (asked .words .now)), used-none (asked .words .now) (asked .start) (asked .start + asked .n))
+
+mul-loop : tie.Need-mul-loop Inv-loop μ-loop
+mul-loop c = omega (arith, c .loop .inv .1)
+
+mul-all-used : tie.Need-mul-all-used Inv-loop μ-loop
+mul-all-used c = omega (arith, c .before .loop .inv .1)
+
+-- the run ends within the words, so the word is one of them
+there : (c : tie.In-loop Inv-loop μ-loop) → c .before .loop .i * 64 < slotsIn (c .before .before .before .before .before .before .before .args .words .now)
+there c = omega (arith, c .loop-test .taken, c .before .before .before .before .slots .ensures)
+
+shared-slice-read-all-used : tie.Need-shared-slice-read-all-used Inv-loop μ-loop
+shared-slice-read-all-used c =
+    let at-head = c .before .before in
+    word-there (at-head .before .before .before .before .before .before .args .words .now) (at-head .loop .i) (there (c .before)) .0
+
+part-mask-requires : tie.Need-part-mask-requires Inv-loop μ-loop
+part-mask-requires c κs =
+    let known = c .before .before .before .before .before in
+    (c .before .loop-test .taken, omega (arith, known .slots .ensures, slots-most (known .before .before .before .args .words .now)))
+
+all-used-requires : tie.Need-all-used-requires Inv-loop μ-loop
+all-used-requires c κs = search needs
+
+returns-4 : tie.Need-returns-4 Inv-loop μ-loop
+returns-4 c =
+    let tested = c .before in
+    let masked = tested .before in
+    let test = masked .before .before in
+    let at-head = test .before in
+    let asked = at-head .before .before .before .before .before .before .args in
+    let told = tested .all-used .ensures ∙ ap (usedIn (getD (asked .words .now) (at-head .loop .i) 0)) (masked .part-mask .ensures) in
+    run-not-used (asked .words .now) (asked .start) (asked .n) (at-head .loop .i) (there test) _ told (not-true _ (c .if4 .taken))
+
+add-i : tie.Need-add-i Inv-loop μ-loop
+add-i c = omega (arith, c .before .before .before .before .before .loop .inv .1)
+
+loop-less : tie.Need-loop-less Inv-loop μ-loop
+loop-less c =
+    let test = c .before .before .before .before in
+    omega (arith, there test, slots-most (test .before .before .before .before .before .before .before .args .words .now))
+
+loop-again : tie.Need-loop-again Inv-loop μ-loop
+loop-again c =
+    let tested = c .before in
+    let masked = tested .before in
+    let test = masked .before .before in
+    let at-head = test .before in
+    let asked = at-head .before .before .before .before .before .before .args in
+    let inv = at-head .loop .inv in
+    let told = tested .all-used .ensures ∙ ap (usedIn (getD (asked .words .now) (at-head .loop .i) 0)) (masked .part-mask .ensures) in (
+      omega (arith, inv .0),
+      omega (arith, there test, slots-most (asked .words .now)),
+      used-on (asked .words .now) (asked .start) (asked .start + asked .n) (at-head .loop .i) (there test) _ told (not-false _ (c .if4 .left)) (inv .2),
+    )
+
+returns-5 : tie.Need-returns-5 Inv-loop μ-loop
+returns-5 c =
+    let at-head = c .before in
+    let asked = at-head .before .before .before .before .before .before .args in
+    run-all-used (slotIn (asked .words .now)) (asked .start) (asked .n) (λ p l b. at-head .loop .inv .2 p l b (omega arith))
+
+pub all-used-spec : {M : Type 1} → statement M
+all-used-spec =
+    tie.close
+    (tie.spec Inv-loop μ-loop returns slots-requires returns-2 sub-if3 returns-3 add-end loop-holds mul-loop mul-all-used shared-slice-read-all-used part-mask-requires all-used-requires returns-4 add-i loop-less loop-again returns-5)

@@ -1,0 +1,4 @@
+pub mod Painting
+pub mod Rows
+pub mod Words
+pub mod Summary

@@ -1,0 +1,145 @@
+-- The summary kept beside words in a row: bit i is 1 exactly if word i is not 0. Rests on `Words` and `Rows`.
+use mathlib.Core.Path.{_≡_, sym, ap, _∙_}
+use mathlib.Core.Logic.{_↔_}
+use mathlib.Core.Bool.{Bool, true, false, not, _&&_, true≢false}
+use mathlib.Core.List.{List}
+use Prim.Native.Nat.{ℕ, _+_, _-_, _*_, _/_, _^_, _≤_, _<_, zero-le, min}
+use native.Mathlib.Omega.{arith}
+use lib.ListN.{length, getD, List·getD-eq-default}
+use lib.Dec.{T, eqb, eqb→eq, leb, ltb, ltb→lt, lt→ltb, not-T, T-not}
+use lib.Pow.{pow-pos, pow-add}
+use borrow.Author.Tests.{ltb-true, ltb-false, eq-eqb, eqb-true, not-false}
+use Rattle.bits.specs.Range.{either, same-test}
+use Rattle.bits.specs.Digits.{digit, digit-number, number-lt, number-agree, zero-digit, equal-digits}
+use Rattle.slots.specs.Sets.{Slots, Named, AllFree, SomeUsed, allFree, finds-all-free, finds-some-used}
+use Rattle.slots.specs.Keeping.{Kept, BitsAgree, made-bits, only-bits, bitsKept}
+use Rattle.rows.specs.Painting.{slotsIn, slotIn, slot-in-word, endIn, reaches, paintedWords, painted-length, kept-word}
+use Rattle.rows.specs.Rows.{usedWord, summaryOf, partWords, touchedSummary}
+use Rattle.rows.specs.Words.{AreWords, wordsOf, made-words, holds-words, wordsView, word-held}
+
+-- ---- what a bit says
+
+abbrev pub UsedWord : List ℕ → ℕ → Type 0
+UsedWord words i = getD words i 0 ≡ 0 → ⊥
+
+pub finds-word-used : (words : List ℕ) (i : ℕ) → T (usedWord words i) ↔ UsedWord words i
+finds-word-used words i = (
+  λ t e. T-not (eqb (getD words i 0) 0) t (rw (eq-eqb (getD words i 0) 0 e) tt),
+  λ h. not-T (eqb (getD words i 0) 0) (λ t. h (eqb→eq (getD words i 0) 0 t)),
+)
+
+abbrev pub SummaryAgrees : List ℕ → ℕ → Type 0
+SummaryAgrees = BitsAgree 16 UsedWord usedWord finds-word-used
+
+abbrev pub summaryKept : (j : ℕ) (most : 2 ^ j ≤ 256) → Kept (wordsView j most)
+summaryKept j most = bitsKept (wordsView j most) 16 UsedWord usedWord finds-word-used
+
+-- the summary of the words agrees with them, and no other does
+pub summary-right : (words : List ℕ) → SummaryAgrees words (summaryOf words)
+unfolding summaryOf
+summary-right words = made-bits 16 UsedWord usedWord finds-word-used words
+
+pub summary-agrees : (words : List ℕ) (f : ℕ) → f < 2 ^ 16 → SummaryAgrees words f ↔ (f ≡ summaryOf words)
+unfolding summaryOf
+summary-agrees words f fits = (λ h. sym (only-bits 16 UsedWord usedWord finds-word-used words f fits h), λ e. rw e (summary-right words))
+
+-- ---- which slots it tells of
+
+-- a word is 0 exactly if none of its slots is used
+pub word-free : (words : List ℕ) (i : ℕ) → i * 64 < slotsIn words → getD words i 0 < 2 ^ 64 → (getD words i 0 ≡ 0) ↔ AllFree (slotIn words) (i * 64) 64
+word-free words i there fits = (
+  λ e s named.
+      ap (slotIn words) (back s (named .0))
+      ∙ slot-in-word words i (s - i * 64) there (omega (arith, named)) ∙ ap (λ (w : ℕ). digit w (s - i * 64)) e ∙ zero-digit (s - i * 64),
+  λ free.
+      equal-digits 64 (getD words i 0) 0 fits (pow-pos 64) (λ p l.
+      sym (slot-in-word words i p there l) ∙ free (i * 64 + p) (omega arith, omega arith) ∙ sym (zero-digit p)),
+)
+  where
+    back : (s : ℕ) → i * 64 ≤ s → s ≡ i * 64 + (s - i * 64)
+    back s h = omega arith
+
+pub word-used : (words : List ℕ) (i : ℕ) → i * 64 < slotsIn words → getD words i 0 < 2 ^ 64 → UsedWord words i ↔ SomeUsed (slotIn words) (i * 64) 64
+word-used words i there fits =
+    let free = word-free words i there fits in (
+      λ used. finds-some-used (slotIn words) (i * 64) 64 .0
+          (not-T (allFree (slotIn words) (i * 64) 64) (λ t. used (free .1 (finds-all-free (slotIn words) (i * 64) 64 .0 t)))),
+      λ some e. true≢false (sym (some .2) ∙ free .0 e (some .0) (some .1)),
+    )
+
+-- so a bit of the summary of a set's words tells whether the set has one of the word's slots
+pub part-used : (j : ℕ) → 2 ^ j ≤ 256 → (S : Slots) (i : ℕ) → i < 2 ^ j → UsedWord (wordsOf j S) i ↔ SomeUsed S (i * 64) 64
+part-used j most S i l =
+    let held = made-words j S in
+    let used = word-used (wordsOf j S) i (word-held j most (wordsOf j S) held i l) (held .each-fits i l) in (
+      λ h. let some = used .0 h in (some .0, some .1, sym (same (some .0) (some .1)) ∙ some .2),
+      λ some. used .1 (some .0, some .1, same (some .0) (some .1) ∙ some .2),
+    )
+  where
+    same : (s : ℕ) → Named (i * 64) 64 s → slotIn (wordsOf j S) s ≡ S s
+    same s named = holds-words j most S s (omega (arith, named, pow-add 2 j 6))
+
+-- sixteen words: the summary is 0 exactly if no slot is used
+pub none-used : (words : List ℕ) → AreWords 4 words → (summaryOf words ≡ 0) ↔ AllFree (slotIn words) 0 1024
+unfolding summaryOf
+none-used words held = (
+  λ e s named.
+      let l : s / 64 < 16 = omega (arith, named) in
+      let unused : usedWord words (s / 64) ≡ false = sym (digit-number (usedWord words) 16 (s / 64) l) ∙ ap (λ (n : ℕ). digit n (s / 64)) e ∙ zero-digit (s / 64) in
+      word-free words (s / 64) (there (s / 64) l) (held .each-fits (s / 64) l) .0
+      (eqb-true (getD words (s / 64) 0) 0 (not-false (eqb (getD words (s / 64) 0) 0) unused)) s (omega arith, omega arith),
+  λ free.
+      equal-digits 16 (summaryOf words) 0 (number-lt (usedWord words) 16) (pow-pos 16) (λ i l.
+      digit-number (usedWord words) 16 i l
+      ∙ ap not (eq-eqb (getD words i 0) 0 (word-free words i (there i l) (held .each-fits i l) .1 (λ s named. free s (zero-le, omega (arith, named)))))
+      ∙ sym (zero-digit i)),
+)
+  where
+    there : (i : ℕ) → i < 16 → i * 64 < slotsIn words
+    there i l = word-held 4 (omega arith) words held i l
+
+-- ---- it stays right
+
+-- among more slots a run reaches no more of the words that there are among fewer
+reaches-alike : (slots more s n i : ℕ) → i * 64 < slots → i * 64 < more → reaches s (endIn slots s n) i ≡ reaches s (endIn more s n) i
+unfolding endIn
+reaches-alike slots more s n i l m =
+    ap (λ (b : Bool). leb (s / 64) i && b)
+    (same-test (ltb (i * 64) (endIn slots s n)) (ltb (i * 64) (endIn more s n))
+    (λ t. lt→ltb (i * 64) (endIn more s n) (omega (arith, ltb→lt (i * 64) (endIn slots s n) t)))
+    (λ t. lt→ltb (i * 64) (endIn slots s n) (omega (arith, ltb→lt (i * 64) (endIn more s n) t))))
+
+module _ (words : List ℕ) (s n : ℕ) (v : Bool) where
+  as-long : length (paintedWords words s n v) ≡ length words
+  unfolding paintedWords
+  as-long = painted-length words s (endIn (slotsIn words) s n) v 256
+
+  as-many : partWords (paintedWords words s n v) ≡ partWords words
+  unfolding partWords
+  as-many = ap (λ (l : ℕ). min l 16) as-long
+
+  -- a word of the part that the run does not reach is as it was, and past the words there is nothing
+  kept-in-part : (i : ℕ) → i < 16 → reaches s (endIn (partWords words * 64) s n) i ≡ false → getD (paintedWords words s n v) i 0 ≡ getD words i 0
+  unfolding paintedWords partWords slotsIn
+  kept-in-part i l t =
+      either (ltb i (length words))
+      (λ h. let inside = ltb-true i (length words) h in
+      kept-word words s (endIn (slotsIn words) s n) v 256 i (reaches-alike (slotsIn words) (partWords words * 64) s n i (omega arith) (omega arith) ∙ t))
+      (λ h. let past = ltb-false i (length words) h in
+      List·getD-eq-default (paintedWords words s n v) 0 {n = i} (rw as-long past) ∙ sym (List·getD-eq-default words 0 {n = i} past))
+
+-- once a run is painted, bringing the bits of the touched words up to date makes the summary right again
+pub touched-right : (words : List ℕ) (summary s n : ℕ) (v : Bool) → summary ≡ summaryOf words
+    → touchedSummary (paintedWords words s n v) summary s n ≡ summaryOf (paintedWords words s n v)
+unfolding touchedSummary summaryOf
+touched-right words summary s n v e = number-agree _ (usedWord (paintedWords words s n v)) 16 (λ i l.
+    either (reached i) (λ t. ap (at-word i) t)
+    (λ t. ap (at-word i) t ∙ ap (λ (m : ℕ). digit m i) e ∙ digit-number (usedWord words) 16 i l
+    ∙ ap (λ (word : ℕ). not (eqb word 0))
+    (sym (kept-in-part words s n v i l (ap (λ (w : ℕ). reaches s (endIn (w * 64) s n) i) (sym (as-many words s n v)) ∙ t)))))
+  where
+    reached : ℕ → Bool
+    reached i = reaches s (endIn (partWords (paintedWords words s n v) * 64) s n) i
+
+    at-word : ℕ → Bool → Bool
+    at-word i b = elim b [ true ↦ usedWord (paintedWords words s n v) i | false ↦ digit summary i ]

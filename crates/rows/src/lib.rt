@@ -1,0 +1,228 @@
+// Words of 64 slots in a row: slot s is place s % 64 of word s / 64, and a slot past the words is not
+// used. What can be done to them without judging it, by the same code for one word, for sixteen and
+// for 256. No function refuses; each answers for every input. No map has more than 256 words: of a
+// longer row the rest is not looked at. Rests on `places`.
+ghost use mathlib.Core.Path.{_≡_};
+ghost use mathlib.Core.Bool.{not};
+ghost use Prim.Native.Nat.{_≤_, _<_, _*_, _^_};
+ghost use lib.Dec.{eqb};
+ghost use Rattle.bits.specs.Range.{bit};
+ghost use Rattle.places.specs.Places.{RunMaskSays};
+ghost use Rattle.rows.specs.Painting.{slotsIn, endIn, partMask};
+ghost use Rattle.rows.specs.Rows.{GetSays, CountSays, FirstFreeSays, AllFreeSays, AllUsedSays, PaintSays, SummarySays, TouchedSays, withBit, partWords};
+
+// Where the masks of a run come from: claim and set read the table of low masks, take and free build
+// them by shifts.
+pub const TABLE: bool = true;
+
+pub const SHIFTS: bool = false;
+
+const MOST_WORDS: usize = 256;
+
+const MOST_SLOTS: usize = 16384;
+
+// How many bits a summary has.
+const PARTS: usize = 16;
+
+// Whether the slot is used; past the words, no.
+pub fn get(words: &[u64], slot: usize) -> bool
+    ensures { λ r. ⌜ GetSays (now (words .entry)) slot r ⌝ }
+{
+    if slots(words) <= slot {
+        return false;
+    }
+    (words[slot / 64] >> (slot % 64)) % 2 == 1
+}
+
+// How many slots are used.
+pub fn count(words: &[u64]) -> usize
+    ensures { λ r. ⌜ CountSays (now (words .entry)) r ⌝ }
+{
+    let end = slots(words);
+    let mut total = 0;
+    let mut i = 0;
+    while i * 64 < end {
+        total = total + places::count(words[i]);
+        i += 1;
+    }
+    total
+}
+
+// The least free slot from `from` on, those past the words among them; 16,384 where `from` is there
+// or beyond.
+pub fn first_free(words: &[u64], from: usize) -> usize
+    ensures { λ r. ⌜ FirstFreeSays (now (words .entry)) from r ⌝ }
+{
+    if MOST_SLOTS <= from {
+        return MOST_SLOTS;
+    }
+    let end = slots(words);
+    let mut start = from;
+    while start < end {
+        let place = places::first_free(words[start / 64], start % 64);
+        if place < 64 {
+            return start / 64 * 64 + place;
+        }
+        start = (start / 64 + 1) * 64;
+    }
+    start
+}
+
+// Whether each of the n slots from `start` on is free, asked slot by slot; past the words, each is.
+pub fn all_free(words: &[u64], start: usize, n: usize) -> bool
+    ensures { λ r. ⌜ AllFreeSays (now (words .entry)) start n r ⌝ }
+{
+    let end = end_of(slots(words), start, n);
+    let mut slot = start;
+    while slot < end {
+        if (words[slot / 64] >> (slot % 64)) % 2 == 1 {
+            return false;
+        }
+        slot += 1;
+    }
+    true
+}
+
+// Whether each of the n slots from `start` on is used, asked word by word; past the words, none is.
+pub fn all_used(words: &[u64], start: usize, n: usize) -> bool
+    ensures { λ r. ⌜ AllUsedSays (now (words .entry)) start n r ⌝ }
+{
+    if n == 0 {
+        return true;
+    }
+    let held = slots(words);
+    if held <= start {
+        return false;
+    }
+    if held - start < n {
+        return false;
+    }
+    let end = start + n;
+    let mut i = start / 64;
+    while i * 64 < end {
+        if !places::all_used(words[i], part_mask(start, end, i, false)) {
+            return false;
+        }
+        i += 1;
+    }
+    true
+}
+
+// Gives the n slots from `start` on the value `used`, as far as there are slots. `table`, which is
+// `TABLE` or `SHIFTS`, changes nothing else than where the masks come from.
+pub fn paint(words: &mut [u64], start: usize, n: usize, used: bool, table: bool)
+    ensures { λ _. ⌜ PaintSays (now (words .entry)) start n used (now (words .exit)) ⌝ }
+{
+    let end = end_of(slots(words), start, n);
+    let mut i = start / 64;
+    while i * 64 < end {
+        words[i] = places::paint(words[i], part_mask(start, end, i, table), used);
+        i += 1;
+    }
+}
+
+// ---- a summary of a part of the words, sixteen at most: bit i is 1 exactly if word i is not 0
+
+// The summary that a part has.
+pub fn summary(part: &[u64]) -> u16
+    ensures { λ r. ⌜ SummarySays (now (part .entry)) r ⌝ }
+{
+    let end = words_of(part);
+    let mut summary = 0;
+    let mut i = 0;
+    while i < end {
+        summary = summary | used_bit(part[i], i);
+        i += 1;
+    }
+    summary
+}
+
+// The summary with the bit of each word that the n slots from `start` on reach brought up to date,
+// set or cleared; the other bits stay.
+pub fn touched(part: &[u64], summary: u16, start: usize, n: usize) -> u16
+    ensures { λ r. ⌜ TouchedSays (now (part .entry)) summary start n r ⌝ }
+{
+    let end = end_of(words_of(part) * 64, start, n);
+    let mut updated = summary;
+    let mut i = start / 64;
+    while i * 64 < end {
+        updated = with_bit(updated, part[i], i);
+        i += 1;
+    }
+    updated
+}
+
+// The summary with bit i as the word has it.
+fn with_bit(summary: u16, word: u64, i: usize) -> u16
+    requires { ⌜ i < 16 ⌝ }
+    ensures { λ r. ⌜ r ≡ withBit summary (not (eqb word 0)) i ⌝ }
+{
+    (summary & !(1 << i)) | used_bit(word, i)
+}
+
+fn used_bit(word: u64, i: usize) -> u16
+    requires { ⌜ i < 16 ⌝ }
+    ensures { λ r. ⌜ r ≡ bit (not (eqb word 0)) * 2 ^ i ⌝ }
+{
+    ((word != 0) as u16) << i
+}
+
+// How many words a part has, sixteen at most.
+fn words_of(part: &[u64]) -> usize
+    ensures { λ r. ⌜ r ≡ partWords (now (part .entry)) ⌝ }
+{
+    if PARTS <= part.len() {
+        return PARTS;
+    }
+    part.len()
+}
+
+// ---- runs
+
+// How many slots the words hold.
+fn slots(words: &[u64]) -> usize
+    ensures { λ r. ⌜ r ≡ slotsIn (now (words .entry)) ⌝ }
+{
+    if MOST_WORDS <= words.len() {
+        return MOST_SLOTS;
+    }
+    words.len() * 64
+}
+
+// Where a run ends among so many slots.
+fn end_of(slots: usize, start: usize, n: usize) -> usize
+    ensures { λ r. ⌜ r ≡ endIn slots start n ⌝ }
+{
+    if slots <= start {
+        return slots;
+    }
+    if slots - start < n {
+        return slots;
+    }
+    start + n
+}
+
+// Ones at the places of word i that lie in the run from `start` to `end`.
+fn part_mask(start: usize, end: usize, i: usize, table: bool) -> u64
+    requires { ⌜ (i * 64 < end) × (end ≤ 16384) ⌝ }
+    ensures { λ r. ⌜ r ≡ partMask start end i ⌝ }
+{
+    let first = i * 64;
+    if start <= first {
+        return mask_from(0, end - first, table);
+    }
+    if end <= start {
+        return 0;
+    }
+    mask_from(start - first, end - start, table)
+}
+
+// A run's mask, from the table or by shifts.
+fn mask_from(start: usize, n: usize, table: bool) -> u64
+    ensures { λ r. ⌜ RunMaskSays start n r ⌝ }
+{
+    if table {
+        return places::table_mask(start, n);
+    }
+    places::run_mask(start, n)
+}
