@@ -13,8 +13,8 @@ use Rattle.slots.specs.Sets.{allFree, allUsed, painted}
 use Rattle.slots.specs.Lowest.{fitsAt, lowest}
 use Rattle.slots.specs.Calls.{takeCall, claimCall, freeCall, getCall}
 use Rattle.slots.specs.View.{answered, changed}
-use Rattle.rows.specs.Words.{listed}
-use Rattle.rows.specs.Painting.{slotsIn, slotIn}
+use Rattle.views.specs.Words.{listed}
+use Rattle.views.specs.Painting.{slotsIn, slotIn}
 use Rattle.tree.specs.declared.Tree.{Tree}
 use Rattle.tree.specs.Layout.{treeOf, treeView, slotOf}
 use Rattle.tree.specs.Contracts.{NewEmptySays, NewFullSays}

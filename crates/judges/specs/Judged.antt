@@ -12,7 +12,7 @@ use Rattle.slots.specs.Sets.{Slots, allFree, allUsed}
 use Rattle.slots.specs.Lowest.{lowest, freeFrom}
 use Rattle.slots.specs.Calls.{Call, says, rangeChecks, takeCall, claimCall, freeCall, nextFreeCall, getCall}
 use Rattle.slots.specs.Tries.{slotOrNone}
-use Rattle.rows.specs.Painting.{slotIn}
+use Rattle.views.specs.Painting.{slotIn}
 use Rattle.judges.specs.declared.Size.{Size}
 use Rattle.judges.specs.Sizes.{exponentOf}
 

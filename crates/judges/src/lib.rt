@@ -8,7 +8,7 @@ use answers::Truth;
 ghost use Rattle.judges.specs.Sizes.{exponentOf, ExponentSays, CapacitySays};
 ghost use Rattle.answers.specs.Said.{refused};
 ghost use Rattle.answers.specs.Answers.{answerSays};
-ghost use Rattle.rows.specs.Painting.{slotIn};
+ghost use Rattle.views.specs.Painting.{slotIn};
 ghost use Rattle.judges.specs.Judged.{readyFor, unreadyFor, RangeSays, ChangeSays, TakeSays, NextFreeSays, GetSays, NextFreeInSays, LowestStartSays};
 ghost use Rattle.slots.specs.Tries.{nextTry};
 ghost use mathlib.Core.Path.{_≡_};

@@ -6,14 +6,14 @@ use native.Mathlib.Omega.{arith}
 use lib.ListN.{length, getD, drop, drop-of-length-le}
 use lib.Seq.{drop-cons}
 use Rattle.bits.specs.Range.{count}
-use Rattle.rows.specs.Painting.{slotsIn, slotIn, slots-all}
+use Rattle.views.specs.Painting.{slotIn}
 use Rattle.slots.specs.Plain.{Asked, free}
 use Rattle.slots.specs.Series.{made, lastOf}
 use Rattle.tree.specs.declared.Tree.{Tree}
 use Rattle.tree.specs.declared.Changed.{Changed}
 use Rattle.tree.specs.Layout.{holding, treeView, treeCalls}
 use Rattle.tree.specs.Contracts.{HoldingSays, TakeSays, FreeSays}
-use Rattle.measured.specs.Series.{takesOf, freesOf, wordsAfter, After}
+use Rattle.measured.specs.Series.{takesOf, freesOf, After, LeftInSays}
 
 -- from a map, the rest of a series ends where the whole does
 pub record Ends (words : List ℕ) (calls : List Asked) (m : Tree) (rest : List Asked) : Type 0 where
@@ -50,9 +50,5 @@ module _ {words : List ℕ} {calls : List Asked} where
     alike = ends .alike ∙ ap (λ (l : List ℕ). lastOf treeView treeCalls m (freesOf l n)) (drop-of-length-le starts {i = i} over);
   }
 
-  pub finished : {m : Tree} (after : List ℕ) (r : ℕ) → Ends words calls m [] → after ≡ m .words → 16 ≡ length after → r ≡ count (slotIn after) 0 (slotsIn after)
-      → After words calls r after
-  finished after r ends is sixteen counted =
-      let same : after ≡ wordsAfter words calls = is ∙ ap (λ (t : Tree). t .words) (sym (ends .alike)) in
-      let all = slots-all after 16 (sym sixteen) (omega arith) in
-      λ i. ((counted ∙ ap (count (slotIn after) 0) all ∙ ap (λ (l : List ℕ). count (slotIn l) 0 1024) same) i, same i)
+  pub finished : {m : Tree} (after : List ℕ) (r : ℕ) → Ends words calls m [] → LeftInSays m r after → After words calls r after
+  finished after r ends left = left ∙ ap (λ (t : Tree). (count (slotIn (t .words)) 0 1024, t .words)) (sym (ends .alike))

@@ -4,9 +4,10 @@ use mathlib.Core.Path.{_≡_, sym, ap, _∙_}
 use mathlib.Core.List.{List, [], _∷_, map}
 use Prim.Native.Nat.{ℕ, zero, suc}
 use Rattle.bits.specs.Range.{count}
-use Rattle.rows.specs.Painting.{slotIn}
+use Rattle.views.specs.Painting.{slotIn}
 use Rattle.slots.specs.Plain.{Asked, take, free}
 use Rattle.slots.specs.Series.{lastOf}
+use Rattle.tree.specs.declared.Tree.{Tree}
 use Rattle.tree.specs.Layout.{holding, treeView, treeCalls}
 
 abbrev pub takesOf : ℕ → ℕ → ℕ → List Asked
@@ -22,6 +23,10 @@ wordsAfter words calls = lastOf treeView treeCalls (holding words) calls .words
 
 abbrev pub After : List ℕ → List Asked → ℕ → List ℕ → Type 0
 After words calls r after = _≡_ {A = ℕ × List ℕ} (r, after) (count (slotIn (wordsAfter words calls)) 0 1024, wordsAfter words calls)
+
+-- what is left of a map: its words, and how many slots they hold
+abbrev pub LeftInSays : Tree → ℕ → List ℕ → Type 0
+LeftInSays m r after = _≡_ {A = ℕ × List ℕ} (r, after) (count (slotIn (m .words)) 0 1024, m .words)
 
 abbrev pub TakesSays : List ℕ → ℕ → ℕ → ℕ → ℕ → List ℕ → Type 0
 TakesSays words n a times r after = After words (takesOf n a times) r after

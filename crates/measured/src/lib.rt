@@ -2,7 +2,7 @@
 // lent as its sixteen words, by value and in place. Thin: a loop over the calls of `tree` and of
 // `in_place`.
 use tree::Tree;
-ghost use Rattle.measured.specs.Series.{TakesSays, FreesSays};
+ghost use Rattle.measured.specs.Series.{TakesSays, FreesSays, LeftInSays};
 
 // So many takes of n slots at a multiple of 2^a; a take that is refused changes nothing. Answers how
 // many slots are used then. Never refused.
@@ -16,9 +16,7 @@ pub extern "C" fn slots_takes(words: &mut [u64; 16], n: usize, a: usize, times: 
         map = map.take(n, a).map;
         left -= 1;
     }
-    let left = map.words();
-    *words = left;
-    rows::count(&left)
+    left_in(words, map)
 }
 
 // A free of n slots from each of the starts; a free that is refused changes nothing. Answers how many
@@ -33,9 +31,7 @@ pub extern "C" fn slots_frees(words: &mut [u64; 16], starts: &[u64], n: usize) -
         map = map.free(starts[i] as usize, n).map;
         i += 1;
     }
-    let left = map.words();
-    *words = left;
-    rows::count(&left)
+    left_in(words, map)
 }
 
 // The same, by the in-place forms.
@@ -54,9 +50,7 @@ pub extern "C" fn slots_takes_in_place(
         map = in_place::take_in_copy(map, n, a).map;
         left -= 1;
     }
-    let left = map.words();
-    *words = left;
-    rows::count(&left)
+    left_in(words, map)
 }
 
 #[no_mangle]
@@ -69,6 +63,13 @@ pub extern "C" fn slots_frees_in_place(words: &mut [u64; 16], starts: &[u64], n:
         map = in_place::free_in_copy(map, starts[i] as usize, n).map;
         i += 1;
     }
+    left_in(words, map)
+}
+
+// Stores the map's words, and answers how many slots are used.
+fn left_in(words: &mut [u64; 16], map: Tree) -> usize
+    ensures { λ r. ⌜ LeftInSays map r (now (words .exit)) ⌝ }
+{
     let left = map.words();
     *words = left;
     rows::count(&left)

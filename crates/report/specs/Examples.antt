@@ -10,8 +10,8 @@ use Rattle.slots.specs.Sets.{allFree, allUsed, painted}
 use Rattle.slots.specs.Lowest.{fitsAt, lowest}
 use Rattle.slots.specs.Calls.{takeCall, claimCall, freeCall, usedCall}
 use Rattle.slots.specs.View.{answered, changed}
-use Rattle.rows.specs.Words.{listed}
-use Rattle.rows.specs.Painting.{slotsIn, slotIn}
+use Rattle.views.specs.Words.{listed}
+use Rattle.views.specs.Painting.{slotsIn, slotIn}
 use Rattle.report.specs.Fields.{firstField, fieldsWithin, fields}
 use Rattle.report.specs.Report.{decimalWithin, decimal, linesOf, textOf, reportFrom, reportOf}
 

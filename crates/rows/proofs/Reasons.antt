@@ -17,8 +17,9 @@ use Rattle.bits.specs.Digits.{digit, number, digit-number, number-is, number-ag
 use Rattle.slots.specs.Sets.{Slots, allFree, allUsed, finds-all-free, finds-all-used, finds-some-free, finds-some-used}
 use Rattle.slots.specs.Lowest.{freeFrom}
 use Rattle.places.specs.Places.{runMask, usedIn, paintedIn}
-use Rattle.rows.specs.Rows.{usedWord, partWords, withBit}
-use Rattle.rows.specs.Painting.{slotsIn, slotIn, slots-most, slot-there, slot-past, slot-in-word, endIn, partMask, reaches, paintedFirst, paint-on, paint-ahead, paint-rest}
+use Rattle.rows.specs.Rows.{withBit}
+use Rattle.views.specs.Summary.{usedWord, partWords}
+use Rattle.views.specs.Painting.{slotsIn, slotIn, slots-most, slot-there, slot-past, slot-in-word, endIn, partMask, reaches, paintedFirst, paint-on, paint-ahead, paint-rest}
 
 -- ---- a number whose places are set one after the other
 

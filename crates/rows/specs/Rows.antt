@@ -1,38 +1,21 @@
--- What is done to words in a row, for every list of words: each result slot by slot. Rests on `Painting`.
+-- What is done to words in a row, for every list of words: each result slot by slot. Rests on `views`.
 use mathlib.Core.Path.{_≡_, sym, _∙_}
-use mathlib.Core.Bool.{Bool, true, false, not}
+use mathlib.Core.Bool.{Bool, true, false}
 use mathlib.Core.List.{List}
-use Prim.Native.Nat.{ℕ, _*_, min}
-use lib.ListN.{length, getD}
+use Prim.Native.Nat.{ℕ}
 use lib.Dec.{eqb}
 use Rattle.bits.specs.Range.{count}
 use Rattle.bits.specs.Digits.{digit, number}
-use Rattle.rows.specs.Painting.{slotsIn, slotIn, endIn, reaches, paintedWords}
+use Rattle.views.specs.Painting.{slotsIn, slotIn, paintedWords}
+use Rattle.views.specs.Summary.{summaryOf, touchedSummary}
 use Rattle.slots.specs.Sets.{allFree, allUsed}
 use Rattle.slots.specs.Lowest.{freeFrom}
 
 -- ---- what is answered
 
--- word i is not 0; past the last it is
-abbrev pub usedWord : List ℕ → ℕ → Bool
-usedWord words i = not (eqb (getD words i 0) 0)
-
--- bit i is 1 exactly if word i is not 0
-unfoldable pub summaryOf : List ℕ → ℕ
-summaryOf words = number (usedWord words) 16
-
 -- the summary with bit i given the value v
 unfoldable pub withBit : ℕ → Bool → ℕ → ℕ
 withBit summary v i = number (λ p. elim (eqb p i) [ true ↦ v | false ↦ digit summary p ]) 16
-
--- how many words a part has, sixteen at most
-unfoldable pub partWords : List ℕ → ℕ
-partWords words = min (length words) 16
-
--- the summary with the bit of each word that the n slots from s on reach brought up to date, set or cleared
-unfoldable pub touchedSummary : List ℕ → ℕ → ℕ → ℕ → ℕ
-touchedSummary words summary s n =
-    number (λ i. elim (reaches s (endIn (partWords words * 64) s n) i) [ true ↦ usedWord words i | false ↦ digit summary i ]) 16
 
 -- ---- the contracts
 

@@ -8,8 +8,9 @@ ghost use Prim.Native.Nat.{_≤_, _<_, _*_, _^_};
 ghost use lib.Dec.{eqb};
 ghost use Rattle.bits.specs.Range.{bit};
 ghost use Rattle.places.specs.Places.{RunMaskSays};
-ghost use Rattle.rows.specs.Painting.{slotsIn, endIn, partMask};
-ghost use Rattle.rows.specs.Rows.{GetSays, CountSays, FirstFreeSays, AllFreeSays, AllUsedSays, PaintSays, SummarySays, TouchedSays, withBit, partWords};
+ghost use Rattle.views.specs.Painting.{slotsIn, endIn, partMask};
+ghost use Rattle.rows.specs.Rows.{GetSays, CountSays, FirstFreeSays, AllFreeSays, AllUsedSays, PaintSays, SummarySays, TouchedSays, withBit};
+ghost use Rattle.views.specs.Summary.{partWords};
 
 // Where the masks of a run come from: claim and set read the table of low masks, take and free build
 // them by shifts.

@@ -11,6 +11,5 @@ pub mod Family
 pub mod Plain
 pub mod Series
 pub mod Demands
-pub mod Keeping
 pub mod Readings
 pub mod Lesson

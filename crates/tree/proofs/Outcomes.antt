@@ -17,10 +17,9 @@ use Rattle.slots.specs.Calls.{Call, takeCall}
 use Rattle.slots.specs.Promises.{take-after}
 use Rattle.slots.specs.View.{answered, changed, found-sound}
 use Rattle.slots.proofs.Outcomes.{accepted-sound, carried-out}
-use Rattle.rows.specs.Painting.{paintedWords}
-use Rattle.rows.specs.Rows.{summaryOf, touchedSummary}
-use Rattle.rows.specs.Words.{painted-words}
-use Rattle.rows.specs.Summary.{summary-agrees, none-used, touched-right}
+use Rattle.views.specs.Painting.{paintedWords}
+use Rattle.views.specs.Summary.{summaryOf, touchedSummary, summary-agrees, none-used, touched-right}
+use Rattle.views.specs.Words.{painted-words}
 use Rattle.tree.specs.declared.Tree.{Tree}
 use Rattle.tree.specs.Layout.{treeOf, holding, treeView, slotOf, ofSlots, IsTree, sixteen-fit, sound-means}
 use Rattle.tree.specs.Inner.{paintedTree}

@@ -15,9 +15,9 @@ use Rattle.slots.specs.Calls.{takeCall, claimCall, freeCall, setCall}
 use Rattle.slots.specs.Plain.{Asked, callOf}
 use Rattle.slots.specs.Demands as Slots
 use Rattle.slots.specs.Demands.{Demands, demanded, Ran}
-use Rattle.rows.specs.Painting.{slotIn}
-use Rattle.rows.specs.Words.{listed}
-use Rattle.rows.specs.Summary.{summary-right}
+use Rattle.views.specs.Painting.{slotIn}
+use Rattle.views.specs.Words.{listed}
+use Rattle.views.specs.Summary.{summary-right}
 use Rattle.tree.specs.declared.Tree.{Tree}
 use Rattle.tree.specs.declared.Changed.{Changed}
 use Rattle.tree.specs.Layout.{holding, slotOf, ofSlots, Sound, IsTree, treeView, sound-means}

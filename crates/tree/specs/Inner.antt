@@ -9,8 +9,8 @@ use Rattle.answers.specs.declared.Answer.{Answer}
 use Rattle.answers.specs.declared.NextFree.{NextFree}
 use Rattle.slots.specs.Calls.{rangeChecks, takeCall}
 use Rattle.slots.specs.View.{answered}
-use Rattle.rows.specs.Painting.{slotIn, paintedWords}
-use Rattle.rows.specs.Rows.{touchedSummary}
+use Rattle.views.specs.Painting.{slotIn, paintedWords}
+use Rattle.views.specs.Summary.{touchedSummary}
 use Rattle.judges.specs.Judged.{changeCall}
 use Rattle.tree.specs.declared.Tree.{Tree}
 use Rattle.tree.specs.Layout.{treeOf, treeView}

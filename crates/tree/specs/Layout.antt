@@ -1,4 +1,4 @@
--- The view of the tree map: sixteen words of 64 slots in a row, and their summary kept beside them. Rests on the views of `slots` and `rows`.
+-- The view of the tree map: sixteen words of 64 slots in a row, and their summary kept beside them. Rests on `views`.
 use mathlib.Core.Path.{_≡_, refl}
 use mathlib.Core.Logic.{_↔_}
 use mathlib.Core.Bool.{true}
@@ -12,11 +12,10 @@ use Rattle.slots.specs.Kinds.{plain}
 use Rattle.slots.specs.Family.{Family}
 use Rattle.slots.specs.Plain.{plainCalls}
 use Rattle.slots.specs.View.{View}
-use Rattle.slots.specs.Keeping.{carried, keeping}
-use Rattle.rows.specs.Painting.{slotIn}
-use Rattle.rows.specs.Rows.{summaryOf}
-use Rattle.rows.specs.Words.{wordsView, word-digit}
-use Rattle.rows.specs.Summary.{summaryKept, part-used}
+use Rattle.views.specs.Keeping.{carried, keeping}
+use Rattle.views.specs.Painting.{slotIn}
+use Rattle.views.specs.Summary.{summaryOf, summaryKept, part-used}
+use Rattle.views.specs.Words.{wordsView, word-digit}
 use Rattle.tree.specs.declared.Tree.{Tree}
 
 abbrev pub treeOf : List ℕ → ℕ → Tree

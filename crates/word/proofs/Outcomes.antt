@@ -13,9 +13,9 @@ use Rattle.slots.specs.Sets.{Slots, allFree, painted, finds-all-free}
 use Rattle.slots.specs.Calls.{Call, says}
 use Rattle.slots.specs.View.{answered, sound-answers}
 use Rattle.slots.proofs.Outcomes.{carried-out}
-use Rattle.rows.specs.Painting.{slotIn}
-use Rattle.rows.specs.Words.{one-word, painted-words, word-held}
-use Rattle.rows.specs.Summary.{word-free}
+use Rattle.views.specs.Painting.{slotIn}
+use Rattle.views.specs.Words.{one-word, painted-words, word-held}
+use Rattle.views.specs.Summary.{word-free}
 use Rattle.word.specs.declared.Word.{Word}
 use Rattle.word.specs.declared.Changed.{Changed}
 use Rattle.word.specs.Layout.{wordOf, slotOf, ofSlots, wordView, IsWord, is-word-means, one-fits}

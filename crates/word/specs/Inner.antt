@@ -5,7 +5,7 @@ use Prim.Native.Nat.{ℕ}
 use lib.ListN.{getD}
 use Rattle.answers.specs.Answers.{leftBy}
 use Rattle.answers.specs.declared.Answer.{Answer}
-use Rattle.rows.specs.Painting.{paintedWords}
+use Rattle.views.specs.Painting.{paintedWords}
 use Rattle.word.specs.declared.Word.{Word}
 use Rattle.word.specs.declared.Changed.{Changed}
 use Rattle.word.specs.Layout.{wordOf}

@@ -1,4 +1,4 @@
--- The view of the word map: one word of a row, and slot s is its bit s. Every word map is sound. Rests on the views of `slots` and `rows`.
+-- The view of the word map: one word of a row, and slot s is its bit s. Every word map is sound. Rests on `views`.
 use mathlib.Core.Path.{_≡_, refl, ap, _∙_}
 use mathlib.Core.Logic.{_↔_}
 use mathlib.Core.List.{[], _∷_}
@@ -11,9 +11,9 @@ use Rattle.slots.specs.Kinds.{plain}
 use Rattle.slots.specs.Family.{Family}
 use Rattle.slots.specs.Plain.{plainCalls}
 use Rattle.slots.specs.View.{View}
-use Rattle.slots.specs.Keeping.{carried, seenAs}
-use Rattle.rows.specs.Words as Words
-use Rattle.rows.specs.Words.{listed, listed-first, wordsOf, wordsView, one-word}
+use Rattle.views.specs.Keeping.{carried, seenAs}
+use Rattle.views.specs.Words as Words
+use Rattle.views.specs.Words.{listed, listed-first, wordsOf, wordsView, one-word}
 use Rattle.word.specs.declared.Word.{Word}
 
 abbrev pub slotOf : Word → Slots

@@ -1,7 +1,7 @@
 -- `judges::change` meets its contract: the refusals of the range, and then that of the slots. Assumes nothing.
 use mathlib.Core.Path.{sym, _∙_}
 use borrow.Author.Needs.{needs}
-use Rattle.rows.specs.Painting.{slotIn}
+use Rattle.views.specs.Painting.{slotIn}
 use Rattle.judges.specs.Sizes.{exponentOf}
 use Rattle.judges.proofs.Changing.{range-refuses, slots-refuse, slots-pass}
 use Rattle.judges.proofs.change.Statement.{statement}

@@ -3,7 +3,7 @@ use mathlib.Core.Path.{sym, ap, _∙_}
 use borrow.Author.Needs.{needs}
 use Rattle.answers.specs.Said.{value}
 use Rattle.slots.proofs.Ways.{get-past, get-inside}
-use Rattle.rows.specs.Painting.{slotIn}
+use Rattle.views.specs.Painting.{slotIn}
 use Rattle.judges.specs.Sizes.{exponentOf}
 use Rattle.judges.proofs.get.Statement.{statement}
 use Rattle.judges.proofs.get.Tie as tie

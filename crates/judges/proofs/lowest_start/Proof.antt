@@ -5,7 +5,7 @@ use Prim.Native.Nat.{ℕ, _+_, _-_, _^_, _≤_}
 use native.Mathlib.Omega.{arith}
 use borrow.Author.Needs.{needs}
 use Rattle.answers.specs.Answers.{nextFreeSays}
-use Rattle.rows.specs.Painting.{slotIn}
+use Rattle.views.specs.Painting.{slotIn}
 use Rattle.slots.specs.Sets.{Slots, AllFree}
 use Rattle.slots.specs.Search.{searched-past, searched-full, searched-found}
 use Rattle.slots.specs.Promises.{NextFree}

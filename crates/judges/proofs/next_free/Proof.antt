@@ -3,7 +3,7 @@ use mathlib.Core.Path.{sym, _∙_}
 use borrow.Author.Needs.{needs}
 use Rattle.slots.proofs.Ways.{next-free-past}
 use Rattle.slots.specs.Tries.{next-says}
-use Rattle.rows.specs.Painting.{slotIn}
+use Rattle.views.specs.Painting.{slotIn}
 use Rattle.judges.specs.Sizes.{exponentOf}
 use Rattle.judges.proofs.next_free.Statement.{statement}
 use Rattle.judges.proofs.next_free.Tie as tie

@@ -3,7 +3,7 @@ use mathlib.Core.Path.{sym, ap, _∙_}
 use native.Mathlib.Omega.{arith}
 use borrow.Author.Needs.{needs}
 use Rattle.answers.specs.Said.{value}
-use Rattle.rows.specs.Painting.{slotIn}
+use Rattle.views.specs.Painting.{slotIn}
 use Rattle.judges.specs.Sizes.{exponentOf, capacity-most}
 use Rattle.judges.proofs.Room.{room-none, room-found}
 use Rattle.judges.proofs.next_free_in.Statement.{statement}

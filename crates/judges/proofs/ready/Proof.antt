@@ -2,7 +2,7 @@
 use mathlib.Core.Path.{sym, ap, _∙_}
 use mathlib.Core.Bool.{Bool}
 use borrow.Author.Needs.{needs}
-use Rattle.rows.specs.Painting.{slotIn}
+use Rattle.views.specs.Painting.{slotIn}
 use Rattle.judges.specs.Judged.{readyFor}
 use Rattle.judges.proofs.ready.Statement.{statement}
 use Rattle.judges.proofs.ready.Tie as tie

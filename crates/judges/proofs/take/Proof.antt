@@ -6,7 +6,7 @@ use Rattle.answers.specs.Said.{onValue}
 use Rattle.answers.specs.Answers.{at}
 use Rattle.slots.proofs.Ways.{take-empty, take-too-aligned, take-too-many}
 use Rattle.slots.specs.Tries.{take-searched}
-use Rattle.rows.specs.Painting.{slotIn}
+use Rattle.views.specs.Painting.{slotIn}
 use Rattle.judges.specs.Sizes.{exponentOf}
 use Rattle.judges.proofs.take.Statement.{statement}
 use Rattle.judges.proofs.take.Tie as tie

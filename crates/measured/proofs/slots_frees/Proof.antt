@@ -37,20 +37,14 @@ loop-less c = search needs
 loop-again : tie.Need-loop-again Inv-loop μ-loop
 loop-again c = free-turn _ _ _ (c .before .free .result) (c .before .before .before .loop-test .taken) (c .before .before .before .before .loop .inv) (c .before .free .ensures)
 
-words-requires : tie.Need-words-requires Inv-loop μ-loop
-words-requires c κs = search needs
-
-slice-aggregate-count : tie.Need-slice-aggregate-count Inv-loop μ-loop
-slice-aggregate-count c = search needs
-
-count-requires : tie.Need-count-requires Inv-loop μ-loop
-count-requires c κs = search needs
+left-in-requires : tie.Need-left-in-requires Inv-loop μ-loop
+left-in-requires c κs = search needs
 
 returns : tie.Need-returns Inv-loop μ-loop
 returns c =
-    let out-of-loop = c .before .before .before in
+    let out-of-loop = c .before .before in
     let at-head = out-of-loop .before .loop in
-    finished _ _ (none-to-free _ _ (at-head .i) (out-of-loop .loop-test .left) (at-head .inv)) (c .before .before .words .ensures) (slice-aggregate-count (c .before)) (c .count .ensures)
+    finished _ _ (none-to-free _ _ (at-head .i) (out-of-loop .loop-test .left) (at-head .inv)) (c .left-in .ensures)
 
 pub slots-frees-spec : {M : Type 1} → statement M
 slots-frees-spec =
@@ -66,7 +60,5 @@ slots-frees-spec =
     add-i
     loop-less
     loop-again
-    words-requires
-    slice-aggregate-count
-    count-requires
+    left-in-requires
     returns)

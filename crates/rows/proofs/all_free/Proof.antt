@@ -6,7 +6,7 @@ use native.Mathlib.Nat.{le-refl}
 use native.Mathlib.Omega.{arith}
 use borrow.Author.Needs.{needs}
 use borrow.Author.Tests.{eq-eqb, ne-eqb}
-use Rattle.rows.specs.Painting.{slotsIn, slotIn, slots-most, word-there}
+use Rattle.views.specs.Painting.{slotsIn, slotIn, slots-most, word-there}
 use Rattle.rows.proofs.Reasons.{HasTo, has-none, has-on, run-used-at, run-all-free, read-slot, before-end}
 use Rattle.rows.proofs.all_free.Statement.{statement}
 use Rattle.rows.proofs.all_free.Tie as tie

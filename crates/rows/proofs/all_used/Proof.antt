@@ -7,7 +7,7 @@ use lib.ListN.{getD}
 use borrow.Author.Needs.{needs}
 use borrow.Author.Tests.{not-true, not-false}
 use Rattle.places.specs.Places.{usedIn}
-use Rattle.rows.specs.Painting.{slotsIn, slotIn, slots-most, slot-past, word-there}
+use Rattle.views.specs.Painting.{slotsIn, slotIn, slots-most, slot-past, word-there}
 use Rattle.rows.proofs.Reasons.{UsedTo, used-none, used-on, run-not-used, run-free-at, run-all-used}
 use Rattle.rows.proofs.all_used.Statement.{statement}
 use Rattle.rows.proofs.all_used.Tie as tie

@@ -4,7 +4,7 @@ use Prim.Native.Nat.{ℕ, _+_, _-_, _*_, _<_, _≤_}
 use native.Mathlib.Omega.{arith}
 use borrow.Author.Needs.{needs}
 use Rattle.bits.specs.Range.{count, count-most}
-use Rattle.rows.specs.Painting.{slotsIn, slotIn, slots-most, word-there}
+use Rattle.views.specs.Painting.{slotsIn, slotIn, slots-most, word-there}
 use Rattle.rows.proofs.Reasons.{word-most, count-next}
 use Rattle.rows.proofs.count.Statement.{statement}
 use Rattle.rows.proofs.count.Tie as tie

@@ -1,7 +1,7 @@
 -- `rows::end_of` meets its contract, with no sum that wraps. Assumes nothing.
 use native.Mathlib.Omega.{arith}
 use borrow.Author.Needs.{needs}
-use Rattle.rows.specs.Painting.{endIn}
+use Rattle.views.specs.Painting.{endIn}
 use Rattle.rows.proofs.end_of.Statement.{statement}
 use Rattle.rows.proofs.end_of.Tie as tie
 

@@ -3,7 +3,7 @@ use mathlib.Core.Path.{sym}
 use Prim.Native.Nat.{_+_, _-_, _*_, _/_, _<_, _≤_}
 use native.Mathlib.Omega.{arith}
 use borrow.Author.Needs.{needs}
-use Rattle.rows.specs.Painting.{slotsIn, slots-most, word-there}
+use Rattle.views.specs.Painting.{slotsIn, slots-most, word-there}
 use Rattle.rows.proofs.Reasons.{Passed, passed-none, passed-on, passed-found, passed-all, far-from, word-full, word-has, word-from, word-free}
 use Rattle.rows.proofs.first_free.Statement.{statement}
 use Rattle.rows.proofs.first_free.Tie as tie

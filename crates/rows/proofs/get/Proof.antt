@@ -3,7 +3,7 @@ use mathlib.Core.Path.{sym}
 use Prim.Native.Nat.{_/_, _<_}
 use native.Mathlib.Omega.{arith}
 use borrow.Author.Needs.{needs}
-use Rattle.rows.specs.Painting.{slotsIn, slot-past, word-there}
+use Rattle.views.specs.Painting.{slotsIn, slot-past, word-there}
 use Rattle.rows.proofs.Reasons.{read-slot}
 use Rattle.rows.proofs.get.Statement.{statement}
 use Rattle.rows.proofs.get.Tie as tie

@@ -4,7 +4,7 @@ use Prim.Native.Nat.{ℕ, _-_, _*_, _/_, _^_, _≤_, _<_}
 use native.Mathlib.Omega.{arith}
 use lib.ListN.{length}
 use borrow.Author.Needs.{needs}
-use Rattle.rows.specs.Painting.{slotsIn, endIn, paintedFirst, paintedWords, painted-length, paint-none, slots-most, word-there}
+use Rattle.views.specs.Painting.{slotsIn, endIn, paintedFirst, paintedWords, painted-length, paint-none, slots-most, word-there}
 use Rattle.rows.proofs.Reasons.{before-end, paint-step, paint-past, ends-within}
 use Rattle.rows.proofs.paint.Statement.{statement}
 use Rattle.rows.proofs.paint.Tie as tie

@@ -1,7 +1,7 @@
 -- `rows::slots` meets its contract: 64 for each word, of 256 at most. Assumes nothing.
 use native.Mathlib.Omega.{arith}
 use borrow.Author.Needs.{needs}
-use Rattle.rows.specs.Painting.{slotsIn}
+use Rattle.views.specs.Painting.{slotsIn}
 use Rattle.rows.proofs.slots.Statement.{statement}
 use Rattle.rows.proofs.slots.Tie as tie
 

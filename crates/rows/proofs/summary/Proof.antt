@@ -4,7 +4,7 @@ use Prim.Native.Nat.{_-_, _<_, _≤_}
 use native.Mathlib.Omega.{arith}
 use lib.Bits.{bitOr}
 use borrow.Author.Needs.{needs}
-use Rattle.rows.specs.Rows.{usedWord, summaryOf, partWords}
+use Rattle.views.specs.Summary.{usedWord, summaryOf, partWords}
 use Rattle.rows.proofs.Reasons.{firstPlaces, no-places, next-place, part-places, part-there}
 use Rattle.rows.proofs.summary.Statement.{statement}
 use Rattle.rows.proofs.summary.Tie as tie

@@ -3,8 +3,9 @@ use mathlib.Core.Path.{_≡_, sym, ap, _∙_}
 use Prim.Native.Nat.{ℕ, _*_, _-_, _/_, _^_, _≤_, _<_}
 use native.Mathlib.Omega.{arith}
 use borrow.Author.Needs.{needs}
-use Rattle.rows.specs.Painting.{endIn}
-use Rattle.rows.specs.Rows.{usedWord, partWords, withBit, touchedSummary}
+use Rattle.views.specs.Painting.{endIn}
+use Rattle.rows.specs.Rows.{withBit}
+use Rattle.views.specs.Summary.{usedWord, partWords, touchedSummary}
 use Rattle.rows.proofs.Reasons.{before-end, part-there, part-most, touchedFirst, touch-none, touch-on, touch-all}
 use Rattle.rows.proofs.touched.Statement.{statement}
 use Rattle.rows.proofs.touched.Tie as tie

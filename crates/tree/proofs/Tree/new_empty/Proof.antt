@@ -1,7 +1,7 @@
 -- `tree::Tree::new_empty` meets its contract: sixteen words of no ones, and their summary. Assumes nothing.
 use mathlib.Core.Path.{refl}
 use Rattle.bits.specs.Digits.{number}
-use Rattle.rows.specs.Words.{listed}
+use Rattle.views.specs.Words.{listed}
 use Rattle.tree.proofs.Tree.new_empty.Statement.{statement}
 use Rattle.tree.proofs.Tree.new_empty.Tie as tie
 

@@ -1,7 +1,7 @@
 -- `tree::Tree::new_full` meets its contract: sixteen words of 64 ones, and their summary. Assumes nothing.
 use mathlib.Core.Path.{refl}
 use Rattle.bits.specs.Digits.{number}
-use Rattle.rows.specs.Words.{listed}
+use Rattle.views.specs.Words.{listed}
 use Rattle.tree.proofs.Tree.new_full.Statement.{statement}
 use Rattle.tree.proofs.Tree.new_full.Tie as tie
 

@@ -5,7 +5,7 @@ use Rattle.answers.specs.Said.{value}
 use Rattle.bits.specs.Range.{count}
 use Rattle.slots.specs.Promises.{used-promise}
 use Rattle.slots.proofs.Outcomes.{shown-unsound, shown-sound}
-use Rattle.rows.specs.Words.{slots-are}
+use Rattle.views.specs.Words.{slots-are}
 use Rattle.tree.specs.Layout.{treeView, slotOf, sixteen-fit}
 use Rattle.tree.proofs.Values.{is-tree}
 use Rattle.tree.proofs.Tree.used.Statement.{statement}

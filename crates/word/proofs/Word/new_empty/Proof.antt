@@ -1,7 +1,7 @@
 -- `word::Word::new_empty` meets its contract: no digit makes 0. Assumes nothing.
 use mathlib.Core.Path.{refl}
 use Rattle.bits.specs.Digits.{number}
-use Rattle.rows.specs.Words.{listed}
+use Rattle.views.specs.Words.{listed}
 use Rattle.word.proofs.Word.new_empty.Statement.{statement}
 use Rattle.word.proofs.Word.new_empty.Tie as tie
 

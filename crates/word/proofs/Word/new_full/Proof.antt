@@ -1,7 +1,7 @@
 -- `word::Word::new_full` meets its contract: 64 ones make the greatest word. Assumes nothing.
 use mathlib.Core.Path.{refl}
 use Rattle.bits.specs.Digits.{number}
-use Rattle.rows.specs.Words.{listed}
+use Rattle.views.specs.Words.{listed}
 use Rattle.word.proofs.Word.new_full.Statement.{statement}
 use Rattle.word.proofs.Word.new_full.Tie as tie
 

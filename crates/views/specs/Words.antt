@@ -15,7 +15,7 @@ use Rattle.bits.specs.Digits.{digit, number, digit-number, number-lt, number-di
 use Rattle.slots.specs.Sets.{Slots, painted}
 use Rattle.slots.specs.Kinds.{plain}
 use Rattle.slots.specs.View.{View, made-alike}
-use Rattle.rows.specs.Painting.{slotsIn, slotIn, slots-all, slot-there, slot-past, slot-in-word, endIn, paintedWords, painted-slots, painted-length, painted-fit}
+use Rattle.views.specs.Painting.{slotsIn, slotIn, slots-all, slot-there, slot-past, slot-in-word, endIn, paintedWords, painted-slots, painted-length, painted-fit}
 
 -- ---- lists
 

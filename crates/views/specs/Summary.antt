@@ -1,4 +1,4 @@
--- The summary kept beside words in a row: bit i is 1 exactly if word i is not 0. Rests on `Words` and `Rows`.
+-- The summary kept beside words in a row: bit i is 1 exactly if word i is not 0. Rests on `Words` and `Keeping`.
 use mathlib.Core.Path.{_≡_, sym, ap, _∙_}
 use mathlib.Core.Logic.{_↔_}
 use mathlib.Core.Bool.{Bool, true, false, not, _&&_, true≢false}
@@ -10,12 +10,30 @@ use lib.Dec.{T, eqb, eqb→eq, leb, ltb, ltb→lt, lt→ltb, not-T, T-not}
 use lib.Pow.{pow-pos, pow-add}
 use borrow.Author.Tests.{ltb-true, ltb-false, eq-eqb, eqb-true, not-false}
 use Rattle.bits.specs.Range.{either, same-test}
-use Rattle.bits.specs.Digits.{digit, digit-number, number-lt, number-agree, zero-digit, equal-digits}
+use Rattle.bits.specs.Digits.{digit, number, digit-number, number-lt, number-agree, zero-digit, equal-digits}
 use Rattle.slots.specs.Sets.{Slots, Named, AllFree, SomeUsed, allFree, finds-all-free, finds-some-used}
-use Rattle.slots.specs.Keeping.{Kept, BitsAgree, made-bits, only-bits, bitsKept}
-use Rattle.rows.specs.Painting.{slotsIn, slotIn, slot-in-word, endIn, reaches, paintedWords, painted-length, kept-word}
-use Rattle.rows.specs.Rows.{usedWord, summaryOf, partWords, touchedSummary}
-use Rattle.rows.specs.Words.{AreWords, wordsOf, made-words, holds-words, wordsView, word-held}
+use Rattle.views.specs.Keeping.{Kept, BitsAgree, made-bits, only-bits, bitsKept}
+use Rattle.views.specs.Painting.{slotsIn, slotIn, slot-in-word, endIn, reaches, paintedWords, painted-length, kept-word}
+use Rattle.views.specs.Words.{AreWords, wordsOf, made-words, holds-words, wordsView, word-held}
+
+-- ---- the summary of a part of the words
+
+-- word i is not 0; past the last it is
+abbrev pub usedWord : List ℕ → ℕ → Bool
+usedWord words i = not (eqb (getD words i 0) 0)
+
+-- bit i is 1 exactly if word i is not 0
+unfoldable pub summaryOf : List ℕ → ℕ
+summaryOf words = number (usedWord words) 16
+
+-- how many words a part has, sixteen at most
+unfoldable pub partWords : List ℕ → ℕ
+partWords words = min (length words) 16
+
+-- the summary with the bit of each word that the n slots from s on reach brought up to date, set or cleared
+unfoldable pub touchedSummary : List ℕ → ℕ → ℕ → ℕ → ℕ
+touchedSummary words summary s n =
+    number (λ i. elim (reaches s (endIn (partWords words * 64) s n) i) [ true ↦ usedWord words i | false ↦ digit summary i ]) 16
 
 -- ---- what a bit says
 

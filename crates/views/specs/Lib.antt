@@ -1,0 +1,4 @@
+pub mod Keeping
+pub mod Painting
+pub mod Words
+pub mod Summary
