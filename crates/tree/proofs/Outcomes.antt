@@ -3,7 +3,7 @@ use mathlib.Core.Path.{_≡_, sym, ap, ap₂, _∙_}
 use mathlib.Core.Bool.{Bool, true}
 use mathlib.Core.List.{List, [], _∷_}
 use Prim.Native.Nat.{ℕ, _^_, _<_}
-use lib.Dec.{T, eqb, eqb→eq, eqb-refl}
+use lib.Dec.{eqb, eqb→eq, eqb-refl}
 use types.Run.{OneOf}
 use denote.Enum.Declared.{tagOf}
 use Rattle.answers.proofs.Answer.{the-type}
@@ -12,42 +12,33 @@ use Rattle.answers.specs.Said.{value}
 use Rattle.answers.specs.Answers.{Reply, at, answerSays, leftBy}
 use Rattle.answers.specs.declared.Answer.{Answer}
 use Rattle.bits.specs.Range.{same-test}
-use Rattle.slots.specs.Sets.{Slots, allFree, painted, finds-all-free}
+use Rattle.slots.specs.Sets.{Slots, allFree, painted}
 use Rattle.slots.specs.Calls.{Call, takeCall}
 use Rattle.slots.specs.Promises.{take-after}
 use Rattle.slots.specs.View.{answered, changed, found-sound}
 use Rattle.slots.proofs.Outcomes.{accepted-sound, carried-out}
 use Rattle.views.specs.Painting.{paintedWords}
-use Rattle.views.specs.Summary.{summaryOf, touchedSummary, summary-agrees, none-used, touched-right}
 use Rattle.views.specs.Words.{painted-words}
+use Rattle.views.specs.Summary.{summaryOf, touchedSummary, summary-tells, touched-right}
 use Rattle.tree.specs.declared.Tree.{Tree}
-use Rattle.tree.specs.Layout.{treeOf, holding, treeView, slotOf, ofSlots, IsTree, sixteen-fit, sound-means}
+use Rattle.tree.specs.Layout.{treeOf, holding, treeView, slotOf, ofSlots, IsTree, sixteen-fit, sound-by-summary}
 use Rattle.tree.specs.Inner.{paintedTree}
 
 -- ---- the summary tells whether a tree is sound
 
 module _ (t : Tree) (fits : t .summary < 2 ^ 16) where
-  theirs : T (treeView .isSound t) → t .summary ≡ summaryOf (t .words)
-  theirs sound = summary-agrees (t .words) (t .summary) fits .0 (sound-means t .0 (treeView .finds-sound t .0 sound))
-
   pub right-summary : treeView .isSound t ≡ true → t .summary ≡ summaryOf (t .words)
-  right-summary e = theirs (rw e tt)
+  right-summary e = sound-by-summary t fits .0 (treeView .finds-sound t .0 (rw e tt))
 
   pub sound-shown : (summary : ℕ) → summary ≡ summaryOf (t .words) → eqb summary (t .summary) ≡ treeView .isSound t
   sound-shown summary e =
       same-test (eqb summary (t .summary)) (treeView .isSound t)
-      (λ same. treeView .finds-sound t .1 (sound-means t .1 (summary-agrees (t .words) (t .summary) fits .1 (sym (eqb→eq summary (t .summary) same) ∙ e))))
-      (λ sound. rw (e ∙ sym (theirs sound)) (eqb-refl (t .summary)))
+      (λ same. treeView .finds-sound t .1 (sound-by-summary t fits .1 (sym (eqb→eq summary (t .summary) same) ∙ e)))
+      (λ sound. rw (e ∙ sym (sound-by-summary t fits .0 (treeView .finds-sound t .0 sound))) (eqb-refl (t .summary)))
 
 -- of a sound tree the summary alone tells whether it is empty
 pub empty-shown : (t : Tree) → IsTree t → treeView .isSound t ≡ true → eqb (t .summary) 0 ≡ allFree (slotOf t) 0 1024
-empty-shown t held sound =
-    let right = right-summary t (held .is-field) sound in
-    let none = none-used (t .words) (held .is-map) in
-    let found = finds-all-free (slotOf t) 0 1024 in
-    same-test (eqb (t .summary) 0) (allFree (slotOf t) 0 1024)
-    (λ e. found .1 (none .0 (sym right ∙ eqb→eq (t .summary) 0 e)))
-    (λ free. rw (right ∙ none .1 (found .0 free)) tt)
+empty-shown t held sound = ap (λ (f : ℕ). eqb f 0) (right-summary t (held .is-field) sound) ∙ summary-tells (t .words) (held .is-map)
 
 -- ---- a run painted in a sound tree is the tree of the painted set
 

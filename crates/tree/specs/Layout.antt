@@ -14,8 +14,8 @@ use Rattle.slots.specs.Plain.{plainCalls}
 use Rattle.slots.specs.View.{View}
 use Rattle.views.specs.Keeping.{carried, keeping}
 use Rattle.views.specs.Painting.{slotIn}
-use Rattle.views.specs.Summary.{summaryOf, summaryKept, part-used}
 use Rattle.views.specs.Words.{wordsView, word-digit}
+use Rattle.views.specs.Summary.{summaryOf, summaryKept, summary-agrees, part-used}
 use Rattle.tree.specs.declared.Tree.{Tree}
 
 abbrev pub treeOf : List ℕ → ℕ → Tree
@@ -56,6 +56,12 @@ IsTree t = treeView .IsMap t
 
 pub sound-means : (t : Tree) → Sound t ↔ ((i : ℕ) → i < 16 → (digit (t .summary) i ≡ true) ↔ (getD (t .words) i 0 ≡ 0 → ⊥))
 sound-means t = (λ sound. sound .kept-agrees, λ right. record { map-sound = tt; kept-agrees = right })
+
+-- which is to say that the summary is that of the words
+pub sound-by-summary : (t : Tree) → t .summary < 2 ^ 16 → Sound t ↔ (t .summary ≡ summaryOf (t .words))
+sound-by-summary t fits =
+    let agrees = summary-agrees (t .words) (t .summary) fits in
+    (λ sound. agrees .0 (sound-means t .0 sound), λ e. sound-means t .1 (agrees .1 e))
 
 pub is-tree-means : (t : Tree) → IsTree t ↔ ((length (t .words) ≡ 16) × ((i : ℕ) → i < 16 → getD (t .words) i 0 < 2 ^ 64) × (t .summary < 2 ^ 16))
 is-tree-means t = (

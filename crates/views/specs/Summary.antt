@@ -116,6 +116,15 @@ none-used words held = (
     there : (i : ℕ) → i < 16 → i * 64 < slotsIn words
     there i l = word-held 4 (omega arith) words held i l
 
+-- so the summary alone tells whether they are empty
+pub summary-tells : (words : List ℕ) → AreWords 4 words → eqb (summaryOf words) 0 ≡ allFree (slotIn words) 0 1024
+summary-tells words held =
+    let none = none-used words held in
+    let found = finds-all-free (slotIn words) 0 1024 in
+    same-test (eqb (summaryOf words) 0) (allFree (slotIn words) 0 1024)
+    (λ e. found .1 (none .0 (eqb→eq (summaryOf words) 0 e)))
+    (λ free. rw (none .1 (found .0 free)) tt)
+
 -- ---- it stays right
 
 -- among more slots a run reaches no more of the words that there are among fewer

@@ -1,0 +1,14 @@
+pub mod Whenever
+pub mod Answering
+pub mod Acts
+pub mod Words
+pub mod AnyTree
+pub mod Same
+pub mod Search
+pub mod Calls
+pub mod Seen
+pub mod Trees
+pub mod WordMap
+pub mod TreeMap
+pub mod Helpers
+pub mod Departures

@@ -1,0 +1,122 @@
+-- The commit's tree of sixteen words, as our tree: the same words under the same summary. Rests on `AnyTree`, and on the summary of `rows`.
+use mathlib.Core.Path.{_≡_, refl, sym, ap, fun-ext, _∙_}
+use mathlib.Core.Bool.{not}
+use mathlib.Core.List.{List, [], _∷_, map}
+use Prim.Native.Nat.{ℕ, zero, suc, _/_, _%_, _^_, _≤_, _<_}
+use native.Mathlib.Omega.{arith}
+use lib.ListN.{length, getD, length-map}
+use Rattle.bits.specs.Digits.{digit, number-is, digit-number, zero-digit}
+use Rattle.slots.specs.Sets.{Slots, allFree}
+use Rattle.views.specs.Painting.{slots-all, slot-there}
+use Rattle.views.specs.Summary.{usedWord, summaryOf}
+use Rattle.tree.specs.declared.Tree.{Tree}
+use Rattle.tree.specs.Layout.{treeOf, slotOf, Sound, IsTree, treeView, sound-by-summary}
+use Rattle.source.specs.BitmapAllocator.{Bitmap64, Bitmap1024, AllocatorTree, Allocator64, Allocator1024}
+use Rattle.same.specs.Whenever.{Whenever}
+use Rattle.same.specs.Acts.{Found, Acts}
+use Rattle.same.specs.Words as Words
+use Rattle.same.specs.Words.{word-acts}
+use Rattle.same.specs.AnyTree as AnyTree
+use Rattle.same.specs.Seen.{Seen}
+
+abbrev pub wordsOf : Bitmap1024 → List ℕ
+wordsOf t = map (λ (x : Bitmap64). x .bits) (t .child)
+
+abbrev pub ours : Bitmap1024 → Tree
+ours t = treeOf (wordsOf t) (t .bits)
+
+-- ---- the tree over words
+
+abbrev holdsWord : Bitmap64 → Slots
+holdsWord w = digit (w .bits)
+
+abbrev IsWord : Bitmap64 → Type 0
+IsWord w = w .bits < 2 ^ 64
+
+pub few : 6 ≤ 58
+few = omega arith
+
+abbrev pub holds : Bitmap1024 → Slots
+holds = AnyTree.treeHolds Allocator64 6 holdsWord IsWord word-acts few
+
+abbrev pub Held : Bitmap1024 → Type 0
+Held = AnyTree.Held Allocator64 6 holdsWord IsWord word-acts few
+
+abbrev pub GoodTree : Bitmap1024 → Type 0
+GoodTree = AnyTree.GoodTree Allocator64 6 holdsWord IsWord word-acts few
+
+pub acts-1024 : Acts Allocator1024 10 holds GoodTree
+acts-1024 = AnyTree.tree-acts Allocator64 6 holdsWord IsWord word-acts few
+
+-- a tree of trees answers as its set does, too
+pub acts-16384 : Acts (AllocatorTree Allocator1024) 14 (AnyTree.treeHolds Allocator1024 10 holds GoodTree acts-1024 (omega arith)) (AnyTree.GoodTree Allocator1024 10 holds GoodTree acts-1024 (omega arith))
+acts-16384 = AnyTree.tree-acts Allocator1024 10 holds GoodTree acts-1024 (omega arith)
+
+abbrev slotAt : List Bitmap64 → ℕ → Slots
+slotAt = AnyTree.slotAt Allocator64 6 holdsWord IsWord word-acts few
+
+abbrev AllWords : List Bitmap64 → Type 0
+AllWords = AnyTree.AllGood Allocator64 6 holdsWord IsWord word-acts few
+
+-- ---- its slots and its summary are ours
+
+slots-of : (xs : List Bitmap64) (j : ℕ) → slotAt xs j ≡ digit (getD (map (λ (x : Bitmap64). x .bits) xs) j 0)
+slots-of [] j = fun-ext (λ p. sym (zero-digit p))
+slots-of (x ∷ xs) zero = refl
+slots-of (x ∷ xs) (suc j) = slots-of xs j
+
+each-word : (xs : List Bitmap64) → ((i : ℕ) → i < length xs → getD (map (λ (x : Bitmap64). x .bits) xs) i 0 < 2 ^ 64) → AllWords xs
+each-word [] fit = tt
+each-word (x ∷ xs) fit = (fit 0 (omega arith), each-word xs (λ i l. fit (suc i) (omega arith)))
+
+word-fits : (xs : List Bitmap64) → AllWords xs → (i : ℕ) → i < length xs → getD (map (λ (x : Bitmap64). x .bits) xs) i 0 < 2 ^ 64
+word-fits [] good i l = absurd (omega arith)
+word-fits (x ∷ xs) good zero l = good .0
+word-fits (x ∷ xs) good (suc i) l = word-fits xs (good .1) i (omega arith)
+
+slots-alike : (t : Bitmap1024) → length (wordsOf t) ≡ 16 → (i : ℕ) → i < 1024 → holds t i ≡ slotOf (ours t) i
+slots-alike t many i l =
+    ap (λ (X : Slots). X (i % 64)) (slots-of (t .child) (i / 64))
+    ∙ sym (slot-there (wordsOf t) i (rw (slots-all (wordsOf t) 16 many (omega arith)) l))
+
+-- a word that is not 0 holds a slot
+bit-is : (t : Bitmap1024) (j : ℕ) → getD (wordsOf t) j 0 < 2 ^ 64 → usedWord (wordsOf t) j ≡ not (allFree (slotAt (t .child) j) 0 64)
+bit-is t j fits =
+    ap not (Words.empty-tells (getD (wordsOf t) j 0) fits ∙ ap (λ (X : Slots). allFree X 0 64) (sym (slots-of (t .child) j)))
+
+is-held : (t : Bitmap1024) → IsTree (ours t) → Held t
+is-held t held =
+    let long : length (t .child) ≡ 16 = sym (length-map (t .child) (λ (x : Bitmap64). x .bits)) ∙ held .is-map .so-many in
+    record { many = long; each = each-word (t .child) (λ i l. held .is-map .each-fits i (rw long at l)) }
+
+-- of any tree, whatever its summary
+pub next-free-finds : (t : Bitmap1024) → IsTree (ours t) → (s : ℕ) → Whenever (Allocator1024 .next-free t s) (Found 10 (holds t) s)
+next-free-finds t held s = AnyTree.next-free-finds Allocator64 6 holdsWord IsWord word-acts few t (is-held t held) s
+
+-- every sound tree of ours is one of these, and each of these is a sound tree
+pub is-good : (t : Bitmap1024) → IsTree (ours t) → Sound (ours t) → GoodTree t
+unfolding summaryOf
+is-good t held sound = record {
+  held = is-held t held;
+  fits = held .is-field;
+  right = λ j l.
+      ap (λ (b : ℕ). digit b j) (sound-by-summary (ours t) (held .is-field) .0 sound) ∙ digit-number (usedWord (wordsOf t)) 16 j l
+      ∙ bit-is t j (held .is-map .each-fits j l);
+}
+
+module _ (t : Bitmap1024) (good : GoodTree t) where
+  many : length (wordsOf t) ≡ 16
+  many = length-map (t .child) (λ (x : Bitmap64). x .bits) ∙ good .held .many
+
+  fit : (i : ℕ) → i < 16 → getD (wordsOf t) i 0 < 2 ^ 64
+  fit i l = word-fits (t .child) (good .held .each) i (rw (good .held .many) l)
+
+  is-tree : IsTree (ours t)
+  is-tree = record { is-map = record { so-many = many; each-fits = fit }; is-field = good .fits }
+
+  sound : Sound (ours t)
+  unfolding summaryOf
+  sound = sound-by-summary (ours t) (good .fits) .1 (number-is 16 (t .bits) (usedWord (wordsOf t)) (good .fits) (λ j l. good .right j l ∙ sym (bit-is t j (fit j l))))
+
+pub seen-1024 : Seen treeView holds GoodTree ours
+seen-1024 = record { is-sound = sound; is-map = is-tree; alike = λ t good. slots-alike t (many t good) }

@@ -1,0 +1,3 @@
+pub mod WordAnswers
+pub mod TreeAnswers
+pub mod HelperAnswers
