@@ -1,10 +1,12 @@
 #!/usr/bin/env python3
-"""The blackboard's examples once more, worked out from document 01's sentences alone.
+"""The blackboard's examples once more, worked out from the papers' sentences alone: document 01's, and for the third
+level those of request One.
 
 Nothing here is shared with the crates: no code, no table, no list of examples. Where the crates use
 masks, this counts: a power of two is found by trying exponents, a multiple by dividing whole numbers
 of any size, an overlap by looking for the common number, a mask by adding up its bits.
 """
+import itertools
 
 
 class Refused(Exception):
@@ -72,20 +74,32 @@ def clear(buffer, start, end):
 
 
 # a map is the set of its used slots and the number of slots that it has; take, claim, free and set give
-# the set that they leave. A word map has 64 slots; a tree has 1,024, and a summary that may be wrong
+# the set that they leave. A word map has 64 slots. A tree has 1,024, and a summary. The third level has 16,384,
+# a summary, and below it sixteen trees with their own. What a map tells in its summaries may be wrong
+
+
+def summary(used, part):
+    """Bit i is 1 exactly if part i, of so many slots, holds a used one."""
+    return sum(2**i for i in {slot // part for slot in used})
+
+
+def summaries(size, used):
+    """What a map with these slots has to tell: its own summary first, then those of its trees."""
+    if size == 64:
+        return []
+    if size == 1024:
+        return [summary(used, 64)]
+    trees = [{slot - first for slot in used if first <= slot < first + 1024} for first in range(0, size, 1024)]
+    return [summary(used, 1024)] + [summary(tree, 64) for tree in trees]
 
 
 class Map:
-    def __init__(self, size, used=(), summary=None):
-        self.size, self.used, self.told = size, set(used), summary
-
-    def summary(self):
-        parts = range(self.size // 64)
-        right = sum(2**i for i in parts if any(slot // 64 == i for slot in self.used))
-        return right if self.told is None else self.told
+    def __init__(self, size, used=(), told=None):
+        self.size, self.used = size, set(used)
+        self.told = summaries(size, self.used) if told is None else told
 
     def sound(self):
-        refuse(1, self.summary() != Map(self.size, self.used).summary())
+        refuse(1, self.told != summaries(self.size, self.used))
 
     def inside(self, start, n):
         refuse(2, n == 0)
@@ -98,9 +112,9 @@ class Map:
         refuse(3, a >= 60 or 2**a >= self.size)
         refuse(4, n > self.size)
         for start in range(0, self.size - n + 1, 2**a):
-            run = set(range(start, start + n))
+            run = range(start, start + n)
             if self.used.isdisjoint(run):
-                return start, self.used | run
+                return start, self.used | set(run)
         raise Refused(7)
 
     def claim(self, start, n):
@@ -193,22 +207,31 @@ def runs(used):
     return "".join(f" {first}..{last}" for first, last in zip(firsts, lasts)) or " none"
 
 
-def picture(size, used, summary):
-    if size == 64:
-        return " " + "".join("#" if slot in used else "." for slot in range(64))
-    return f"{runs(used)} under summary {summary}"
+def groups(trees):
+    """The trees whose summary is not 0; those side by side that have the same one are said as first and last."""
+    said = ""
+    for told, group in itertools.groupby(range(len(trees)), lambda tree: trees[tree]):
+        group = list(group)
+        if told != 0:
+            said += f", trees {group[0]}..{group[-1]} under {told}"
+    return said
+
+
+def picture(m):
+    if m.size == 64:
+        return " " + "".join("#" if slot in m.used else "." for slot in range(64))
+    return f"{runs(m.used)} under summary {m.told[0]}{groups(m.told[1:])}"
 
 
 def changed(name, words, call):
-    before = MAPS[name]
-    used, summary = before.used, before.summary()
+    left = MAPS[name]
     try:
-        start, used = call(before)
+        start, used = call(left)
         answer = "ok" if start is None else f"at {start}"
-        summary = Map(before.size, used).summary()
+        left = Map(left.size, used)
     except Refused as refusal:
         answer = f"refused {refusal}"
-    print(f"{name}: {words}: {answer}, leaves{picture(before.size, used, summary)}")
+    print(f"{name}: {words}: {answer}, leaves{picture(left)}")
 
 
 def takes(name, n, a, how="take"):
@@ -248,6 +271,11 @@ BARE, PACKED = "empty tree", "full tree"
 ONE, INNER, ACROSS = "tree with slot 0", "tree with slot 70", "tree with slots 60 to 67"
 MOST = "tree with slots 0 to 1022"
 BAD, HIDDEN = "no slot under summary 1", "all slots under summary 32767"
+LARGE, LARGE_FULL, LARGE_ONE = "empty third level", "full third level", "third level with slot 0"
+LARGE_ACROSS, LARGE_MOST = "third level with slots 1000 to 1099", "third level with slots 0 to 16382"
+ODD_TREE = "full third level, tree 15 under 32767"
+ODD_TOP, LOW_TOP = "empty third level under summary 1", "full third level under summary 32767"
+UNTOLD = "third level with slot 0, under no summary"
 MAPS = {
     EMPTY: Map(64),
     FULL: Map(64, range(64)),
@@ -261,8 +289,17 @@ MAPS = {
     INNER: Map(1024, {70}),
     ACROSS: Map(1024, range(60, 68)),
     MOST: Map(1024, range(1023)),
-    BAD: Map(1024, (), 1),
-    HIDDEN: Map(1024, range(1024), 32767),
+    BAD: Map(1024, (), [1]),
+    HIDDEN: Map(1024, range(1024), [32767]),
+    LARGE: Map(16384),
+    LARGE_FULL: Map(16384, range(16384)),
+    LARGE_ONE: Map(16384, {0}),
+    LARGE_ACROSS: Map(16384, range(1000, 1100)),
+    LARGE_MOST: Map(16384, range(16383)),
+    ODD_TREE: Map(16384, range(16384), [65535] + 15 * [65535] + [32767]),
+    ODD_TOP: Map(16384, (), [1] + 16 * [0]),
+    LOW_TOP: Map(16384, range(16384), [32767] + 16 * [65535]),
+    UNTOLD: Map(16384, {0}, [0] + 16 * [0]),
 }
 
 # the paper's own
@@ -398,12 +435,56 @@ counts(BAD)
 gets(HIDDEN, 0)
 counts(HIDDEN)
 
+# the third level
+for n, a in ((16384, 13), (2000, 0), (16385, 13), (16385, 14), (0, 14), (1, 14), (TOP, 0), (1, TOP)):
+    takes(LARGE, n, a)
+takes(LARGE_FULL, 1, 0)
+for n, a in ((1, 13), (1024, 0), (1024, 10), (8192, 13), (8193, 13), (16383, 0), (16384, 13)):
+    takes(LARGE_ONE, n, a)
+for n, a in ((1000, 0), (1001, 0), (1001, 10), (14261, 0), (15285, 0)):
+    takes(LARGE_ACROSS, n, a)
+takes(LARGE_MOST, 1, 0)
+takes(LARGE_MOST, 1, 1)
+for start, n in ((0, 16384), (1023, 2), (15359, 2), (16383, 1), (16383, 2), (16384, 0), (16384, 1), (TOP, 2)):
+    claims(LARGE, start, n)
+for start, n in ((0, 1000), (0, 1001), (1100, 15284)):
+    claims(LARGE_ACROSS, start, n)
+for start, n in ((0, 16384), (1023, 2), (15359, 2), (1024, 1024), (0, 0), (1, TOP)):
+    frees(LARGE_FULL, start, n)
+frees(LARGE, 0, 1)
+for start, n in ((1000, 100), (1000, 101), (1000, 24), (1024, 76)):
+    frees(LARGE_ACROSS, start, n)
+sets(LARGE, 15359, 2, True)
+sets(LARGE_ACROSS, 500, 3000, True)
+sets(LARGE_ACROSS, 500, 3000, False)
+for start, n in ((1023, 14338), (16000, 384), (16000, 385), (16385, 0)):
+    sets(LARGE_FULL, start, n, False)
+for start in (16383, 16384):
+    next_frees(LARGE, start)
+for name, start in ((LARGE_FULL, 0), (LARGE_FULL, TOP), (LARGE_MOST, 0), (LARGE_ACROSS, 1000)):
+    next_frees(name, start)
+for name, slot in ((LARGE_FULL, 16383), (LARGE_FULL, 16384), (LARGE, 0), (LARGE_ACROSS, 1024), (LARGE_ACROSS, 1100)):
+    gets(name, slot)
+for name in (LARGE, LARGE_FULL, LARGE_ACROSS):
+    counts(name)
+
+# third levels of which a summary is wrong: that of a tree, the one over them, or both
+for name in (ODD_TREE, ODD_TOP, LOW_TOP, UNTOLD):
+    takes(name, 0, 14)
+    takes(name, 16385, 14)
+    claims(name, TOP, 2)
+    frees(name, 0, 0)
+    sets(name, 0, 1, True)
+    next_frees(name, 16384)
+    gets(name, 16384)
+    counts(name)
+
 # the lesson's stories: each call on the map that the one before left
 
 
 def story(name, used, *calls):
     MAPS[name] = Map(64, used)
-    print(f"{name}: at first, leaves{picture(64, MAPS[name].used, 0)}")
+    print(f"{name}: at first, leaves{picture(MAPS[name])}")
     for call in calls:
         call(name)
         left = MAPS[name]

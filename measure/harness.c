@@ -9,15 +9,19 @@ number orig_takes(number *words, number n, number a, number times);
 number slots_frees(number *words, const number *starts, number count, number n);
 number slots_frees_in_place(number *words, const number *starts, number count, number n);
 number orig_frees(number *words, const number *starts, number count, number n);
+number third_takes(number *words, number n, number a, number times);
+number orig_third_takes(number *words, number n, number a, number times);
+number third_frees(number *words, const number *starts, number count, number n);
+number orig_third_frees(number *words, const number *starts, number count, number n);
 
 struct time { long seconds, nanoseconds; };
 int clock_gettime(int clock, struct time *);
 long read(int, void *, number);
 long write(int, const void *, number);
 
-// `count` takes of n slots at a multiple of 2^a, or frees of n slots from so many starts.
-struct call { number way, n, a, count, rounds, words[16], starts[24]; };
-struct left { number used, nanoseconds, words[16]; };
+// `count` takes of n slots at a multiple of 2^a, or frees of n slots from so many starts, on a map of `size` words.
+struct call { number way, n, a, count, rounds, size, words[256], starts[24]; };
+struct left { number used, nanoseconds, words[256]; };
 
 __attribute__((noinline)) void carry_out(struct call *call, struct left *left) {
     switch (call->way) {
@@ -26,7 +30,11 @@ __attribute__((noinline)) void carry_out(struct call *call, struct left *left) {
     case 2: left->used = orig_takes(left->words, call->n, call->a, call->count); break;
     case 3: left->used = slots_frees(left->words, call->starts, call->count, call->n); break;
     case 4: left->used = slots_frees_in_place(left->words, call->starts, call->count, call->n); break;
-    default: left->used = orig_frees(left->words, call->starts, call->count, call->n);
+    case 5: left->used = orig_frees(left->words, call->starts, call->count, call->n); break;
+    case 6: left->used = third_takes(left->words, call->n, call->a, call->count); break;
+    case 7: left->used = orig_third_takes(left->words, call->n, call->a, call->count); break;
+    case 8: left->used = third_frees(left->words, call->starts, call->count, call->n); break;
+    default: left->used = orig_third_frees(left->words, call->starts, call->count, call->n);
     }
 }
 
@@ -41,7 +49,7 @@ static number now(void) {
 static void carry_out_rounds(struct call *call, struct left *left) {
     number began = now();
     for (number round = 0; round < call->rounds; round++) {
-        for (int i = 0; i < 16; i++) left->words[i] = call->words[i];
+        for (number i = 0; i < call->size; i++) left->words[i] = call->words[i];
         carry_out(call, left);
     }
     left->nanoseconds = now() - began;

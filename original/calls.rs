@@ -1,33 +1,44 @@
-//! A call: its name, its numbers and its map; what is answered; and the 152 bytes in which the program
+//! A call: its name, its numbers and its map; what is answered; and the bytes in which the program
 //! `compared_calls` reads the one and writes the other.
 
-use crate::map::Map;
+use crate::map::{Map, THIRD, TREE};
 
-/// The bytes of a request, and of an answer.
-pub const SIZE: usize = 152;
+/// The bytes of a request, and of an answer, in front of the map.
+const HEAD: usize = 24;
 
+/// A word map is the first word of a tree.
 #[derive(Clone, Copy, PartialEq, Eq)]
 pub enum Layout {
     Tree,
     Word,
     InPlace,
+    Third,
 }
 
 impl Layout {
     pub fn capacity(self) -> u64 {
-        if self == Layout::Word {
-            64
-        } else {
-            1024
+        match self {
+            Layout::Word => 64,
+            Layout::Tree | Layout::InPlace => 1024,
+            Layout::Third => 16384,
         }
     }
 
     /// The least exponent that is too great for a take.
     pub fn exponents(self) -> u64 {
-        if self == Layout::Word {
-            6
+        match self {
+            Layout::Word => 6,
+            Layout::Tree | Layout::InPlace => 10,
+            Layout::Third => 14,
+        }
+    }
+
+    /// How many words its maps have.
+    pub fn words(self) -> usize {
+        if self == Layout::Third {
+            THIRD
         } else {
-            10
+            TREE
         }
     }
 
@@ -36,6 +47,7 @@ impl Layout {
             Layout::Tree => "tree",
             Layout::Word => "word",
             Layout::InPlace => "in_place",
+            Layout::Third => "third",
         }
     }
 }
@@ -90,10 +102,14 @@ pub enum Op {
 impl Op {
     /// Every call that is compared.
     pub fn all() -> Vec<Op> {
-        let acts = [Act::Take, Act::Claim, Act::Free, Act::Set, Act::NextFree, Act::Get, Act::Empty, Act::Used];
-        let maps = [Layout::Tree, Layout::Word].into_iter().flat_map(|map| acts.map(|act| Op::Slots(map, act)));
+        let acts =
+            [Act::Take, Act::Claim, Act::Free, Act::Set, Act::NextFree, Act::Get, Act::Empty, Act::Used];
+        let maps = [Layout::Tree, Layout::Word, Layout::Third];
+        let maps = maps.into_iter().flat_map(|map| acts.map(|act| Op::Slots(map, act)));
         let in_place = [Act::Take, Act::Free].map(|act| Op::Slots(Layout::InPlace, act));
-        let round = [64, 32].into_iter().flat_map(|width| [Way::Up, Way::Down, Way::Is].map(|way| Op::Round(way, width)));
+        let round = [64, 32]
+            .into_iter()
+            .flat_map(|width| [Way::Up, Way::Down, Way::Is].map(|way| Op::Round(way, width)));
         let others = [Op::PageUp, Op::Pages, Op::PageOffset, Op::Overlap, Op::Bit, Op::Mask];
         maps.chain(in_place).chain(round).chain(others).collect()
     }
@@ -104,6 +120,7 @@ impl Op {
             Op::Slots(Layout::Tree, act) => act as u8,
             Op::Slots(Layout::Word, act) => 16 + act as u8,
             Op::Slots(Layout::InPlace, act) => 32 + act as u8,
+            Op::Slots(Layout::Third, act) => 64 + act as u8,
             Op::Round(way, 64) => 49 + way as u8,
             Op::Round(way, _) => 52 + way as u8,
             Op::PageUp => 55,
@@ -132,7 +149,7 @@ impl Op {
 }
 
 /// A call and the map that it is made on. The numbers are the call's, in its order; flag is the value of set.
-#[derive(Clone, Copy, PartialEq, Eq)]
+#[derive(Clone, PartialEq, Eq)]
 pub struct Request {
     pub op: Op,
     pub flag: bool,
@@ -152,14 +169,34 @@ impl Request {
 
     /// The overlap of x..y and first..last, which stand in the map's first two words.
     pub fn overlap(x: u64, y: u64, first: u64, last: u64) -> Request {
-        let mut map = Map::EMPTY;
+        let mut map = Map::empty(TREE);
         map.words[0] = first;
         map.words[1] = last;
         Request::new(Op::Overlap, x, y, map)
     }
 
-    pub fn bytes(&self) -> [u8; SIZE] {
-        packed(self.op.code(), self.flag, self.x, self.y, &self.map)
+    /// The two ends that an overlap has in its map.
+    pub fn ends(&self) -> (u64, u64) {
+        (self.map.words[0], self.map.words[1])
+    }
+
+    /// How many bytes it has, and its answer.
+    pub fn size(&self) -> usize {
+        HEAD + 8 * (self.map.trees().len() + self.map.words.len())
+    }
+
+    /// Adds its bytes to others.
+    pub fn put(&self, bytes: &mut Vec<u8>) {
+        bytes.extend([self.op.code(), self.flag as u8]);
+        bytes.extend(self.map.summary().to_le_bytes());
+        bytes.extend([0; 4]);
+        for number in [self.x, self.y] {
+            bytes.extend(number.to_le_bytes());
+        }
+        let trees = self.map.trees().iter().copied().map(u64::from);
+        for number in trees.chain(self.map.words.iter().copied()) {
+            bytes.extend(number.to_le_bytes());
+        }
     }
 }
 
@@ -177,7 +214,7 @@ pub enum Answer {
 }
 
 /// What a call says and the map that it leaves.
-#[derive(Clone, Copy, PartialEq, Eq)]
+#[derive(Clone, PartialEq, Eq)]
 pub struct Outcome {
     pub answer: Answer,
     pub map: Map,
@@ -195,22 +232,12 @@ impl Outcome {
             (4, 0) => Answer::Truth(true),
             _ => Answer::Unreadable,
         };
-        let unused = bytes[1] != 0 || bytes[4..8] != [0; 4] || number(16) != 0;
-        let words = std::array::from_fn(|i| number(24 + 8 * i));
-        let summary = u16::from_le_bytes([bytes[2], bytes[3]]);
-        Outcome { answer: if unused { Answer::Unreadable } else { answer }, map: Map { words, summary } }
+        let mut words: Vec<u64> = (HEAD..bytes.len()).step_by(8).map(number).collect();
+        let trees = if words.len() > TREE { words.drain(..16).collect() } else { Vec::new() };
+        let over = u16::from_le_bytes([bytes[2], bytes[3]]);
+        let summaries = trees.iter().map(|&summary| summary as u16).chain([over]).collect();
+        let wide = trees.iter().any(|summary| *summary > u64::from(u16::MAX));
+        let unused = bytes[1] != 0 || bytes[4..8] != [0; 4] || number(16) != 0 || wide;
+        Outcome { answer: if unused { Answer::Unreadable } else { answer }, map: Map { words, summaries } }
     }
-}
-
-fn packed(first: u8, flag: bool, x: u64, y: u64, map: &Map) -> [u8; SIZE] {
-    let mut bytes = [0; SIZE];
-    bytes[0] = first;
-    bytes[1] = flag as u8;
-    bytes[2..4].copy_from_slice(&map.summary.to_le_bytes());
-    bytes[8..16].copy_from_slice(&x.to_le_bytes());
-    bytes[16..24].copy_from_slice(&y.to_le_bytes());
-    for (i, word) in map.words.iter().enumerate() {
-        bytes[24 + 8 * i..32 + 8 * i].copy_from_slice(&word.to_le_bytes());
-    }
-    bytes
 }

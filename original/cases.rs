@@ -1,8 +1,8 @@
-//! The calls that are always made: every small case of the word and of the helpers, and the tree's
-//! boundaries. A family of calls is made from the numbers given to it, so that the list can have fewer.
+//! The calls that are always made: every small case of the word and of the helpers, and the boundaries of the tree
+//! and of the third level. A family of calls is made from the numbers given to it, so that the list can have fewer.
 
 use crate::calls::{Act, Layout, Op, Request, Way};
-use crate::map::Map;
+use crate::map::{Map, THIRD, TREE};
 
 /// Makes a call; hands back the map that a series goes on with, or nothing once enough calls are made.
 pub type Make<'a> = &'a mut dyn FnMut(Request) -> Option<Map>;
@@ -29,51 +29,86 @@ const WORDS: [u64; 15] = [
     0xfffe_ffff_7fff_ff3f,
 ];
 
-/// Maps of trees whose used slots lie at boundaries.
-pub fn tree_maps() -> [Map; 10] {
-    let only = |given: &[(usize, u64)]| {
-        let mut words = [0; 16];
-        given.iter().for_each(|&(place, word)| words[place] = word);
-        Map::of(words)
-    };
-    [
-        Map::EMPTY,
-        Map::FULL,
-        only(&[(0, 1), (15, 1 << 63)]),
-        only(&[(0, 1 << 63), (15, 1)]),
-        only(&[(14, 1 << 63)]),
-        Map::of(std::array::from_fn(|i| if i < 15 { TOP } else { !(1 << 63) })),
-        Map::of(std::array::from_fn(|i| if i < 8 { TOP } else { 0 })),
-        Map::of(std::array::from_fn(|i| if i % 2 == 0 { TOP } else { 0 })),
-        Map::of([1 << 63 | 1; 16]),
-        Map::of([0x5555_5555_5555_5555; 16]),
+/// Maps of so many words whose used slots lie at boundaries.
+pub fn boundary_maps(words: usize) -> Vec<Map> {
+    let last = words - 1;
+    let full_where =
+        |full: &dyn Fn(usize) -> bool| (0..words).map(|i| if full(i) { TOP } else { 0 }).collect();
+    vec![
+        Map::empty(words),
+        Map::full(words),
+        Map::only(words, &[(0, 1), (last, 1 << 63)]),
+        Map::only(words, &[(0, 1 << 63), (last, 1)]),
+        Map::only(words, &[(last - 1, 1 << 63)]),
+        Map::of((0..words).map(|i| if i < last { TOP } else { !(1 << 63) }).collect()),
+        Map::of(full_where(&|i| i < words / 2)),
+        Map::of(full_where(&|i| i % 2 == 0)),
+        Map::of(vec![1 << 63 | 1; words]),
+        Map::of(vec![0x5555_5555_5555_5555; words]),
     ]
 }
 
-/// Numbers around each multiple of 64 up to 1,024, and far past it.
-fn places() -> Vec<u64> {
-    let mut places: Vec<u64> = (0..17).flat_map(|i| [64 * i, 64 * i + 1, 64 * i + 63]).collect();
-    places.extend([1026, 2048, 1 << 32, (1 << 63) - 1, 1 << 63, TOP - 1023, TOP - 1, TOP]);
+/// Maps of a third level, also with used slots at the boundaries of its trees.
+pub fn third_maps() -> Vec<Map> {
+    let mut maps = boundary_maps(THIRD);
+    let starts: Vec<(usize, u64)> = (0..16).map(|tree| (16 * tree, 1)).collect();
+    let turns = (0..THIRD).map(|i| if i / 16 % 2 == 0 { TOP } else { 0 });
+    maps.extend([
+        Map::only(THIRD, &[(0, 1)]),
+        Map::only(THIRD, &[(15, 1 << 63), (16, 1)]),
+        Map::only(THIRD, &[(239, 1 << 63), (240, 1)]),
+        Map::only(THIRD, &starts),
+        Map::of(turns.collect()),
+    ]);
+    maps
+}
+
+/// Maps of a third level whose summaries are at odds: that of one tree, with a bit too many or too few, or the one over
+/// the trees alone.
+pub fn odd_thirds() -> Vec<Map> {
+    let some = Map::only(THIRD, &[(16, 1), (239, 1 << 63)]);
+    vec![
+        Map::empty(THIRD).turned(3, 1),
+        Map::full(THIRD).turned(15, 1 << 15),
+        some.clone().turned(1, 1),
+        some.clone().turned(14, 1),
+        Map::empty(THIRD).turned(16, 1),
+        Map::full(THIRD).turned(16, 1 << 15),
+        some.turned(16, 1 << 14),
+    ]
+}
+
+/// Numbers around each multiple of the sixteenth of a size up to it, and far past it.
+fn places(size: u64) -> Vec<u64> {
+    let part = size / 16;
+    let mut places: Vec<u64> = (0..17).flat_map(|i| [part * i, part * i + 1, part * i + part - 1]).collect();
+    places.extend([size + 2, 2 * size, 1 << 32, (1 << 63) - 1, 1 << 63, TOP - (size - 1), TOP - 1, TOP]);
     places
 }
 
-fn entries() -> Vec<u64> {
-    let mut entries = vec![0, 1, 2, 63, 64, 65, 127, 128, 129, 512, 960, 1023, 1024, 1025];
+/// Numbers of entries around one or two sixteenths of a size, and around all of it.
+fn entries(size: u64) -> Vec<u64> {
+    let part = size / 16;
+    let mut entries = vec![0, 1, 2, part - 1, part, part + 1, 2 * part - 1, 2 * part, 2 * part + 1];
+    entries.extend([size / 2, size - part, size - 1, size, size + 1]);
     entries.extend([1 << 32, 1 << 63, TOP - 63, TOP - 1, TOP]);
     entries
 }
 
-const EXPONENTS: [u64; 16] = [0, 1, 2, 3, 4, 5, 6, 7, 8, 9, 10, 11, 63, 64, 255, TOP];
+/// The exponents up to two above those that a layout takes, and far past them.
+fn exponents(layout: Layout) -> Vec<u64> {
+    (0..layout.exponents() + 2).chain([63, 64, 255, TOP]).collect()
+}
 
 /// Set, free and claim of each of these ranges on each of these maps.
 pub fn ranges(make: Make, layout: Layout, maps: &[Map], starts: &[u64], entries: &[u64]) -> Option<()> {
-    for &map in maps {
+    for map in maps {
         for &start in starts {
             for &n in entries {
-                make(Request::set(layout, start, n, true, map))?;
-                make(Request::set(layout, start, n, false, map))?;
-                make(Request::new(Op::Slots(layout, Act::Free), start, n, map))?;
-                make(Request::new(Op::Slots(layout, Act::Claim), start, n, map))?;
+                make(Request::set(layout, start, n, true, map.clone()))?;
+                make(Request::set(layout, start, n, false, map.clone()))?;
+                make(Request::new(Op::Slots(layout, Act::Free), start, n, map.clone()))?;
+                make(Request::new(Op::Slots(layout, Act::Claim), start, n, map.clone()))?;
             }
         }
     }
@@ -81,10 +116,10 @@ pub fn ranges(make: Make, layout: Layout, maps: &[Map], starts: &[u64], entries:
 }
 
 pub fn takes(make: Make, layout: Layout, maps: &[Map], entries: &[u64], exponents: &[u64]) -> Option<()> {
-    for &map in maps {
+    for map in maps {
         for &n in entries {
             for &a in exponents {
-                make(Request::new(Op::Slots(layout, Act::Take), n, a, map))?;
+                make(Request::new(Op::Slots(layout, Act::Take), n, a, map.clone()))?;
             }
         }
     }
@@ -93,13 +128,13 @@ pub fn takes(make: Make, layout: Layout, maps: &[Map], entries: &[u64], exponent
 
 /// Next free and get at each of these places, empty and used.
 pub fn questions(make: Make, layout: Layout, maps: &[Map], places: &[u64]) -> Option<()> {
-    for &map in maps {
+    for map in maps {
         for &place in places {
-            make(Request::new(Op::Slots(layout, Act::NextFree), place, 0, map))?;
-            make(Request::new(Op::Slots(layout, Act::Get), place, 0, map))?;
+            make(Request::new(Op::Slots(layout, Act::NextFree), place, 0, map.clone()))?;
+            make(Request::new(Op::Slots(layout, Act::Get), place, 0, map.clone()))?;
         }
-        make(Request::new(Op::Slots(layout, Act::Empty), 0, 0, map))?;
-        make(Request::new(Op::Slots(layout, Act::Used), 0, 0, map))?;
+        make(Request::new(Op::Slots(layout, Act::Empty), 0, 0, map.clone()))?;
+        make(Request::new(Op::Slots(layout, Act::Used), 0, 0, map.clone()))?;
     }
     Some(())
 }
@@ -107,10 +142,10 @@ pub fn questions(make: Make, layout: Layout, maps: &[Map], places: &[u64]) -> Op
 /// Take and free in place, as far as these numbers go.
 pub fn in_place(make: Make, maps: &[Map], starts: &[u64], entries: &[u64], exponents: &[u64]) -> Option<()> {
     takes(make, Layout::InPlace, maps, entries, exponents)?;
-    for &map in maps {
+    for map in maps {
         for &start in starts {
             for &n in entries {
-                make(Request::new(Op::Slots(Layout::InPlace, Act::Free), start, n, map))?;
+                make(Request::new(Op::Slots(Layout::InPlace, Act::Free), start, n, map.clone()))?;
             }
         }
     }
@@ -123,7 +158,7 @@ pub fn roundings(make: Make, width: u32, values: &[u64], alignments: &[u64]) -> 
     for &value in values.iter().filter(fits) {
         for &alignment in alignments.iter().filter(fits) {
             for way in [Way::Up, Way::Down, Way::Is] {
-                make(Request::new(Op::Round(way, width), value, alignment, Map::EMPTY))?;
+                make(Request::new(Op::Round(way, width), value, alignment, Map::empty(TREE)))?;
             }
         }
     }
@@ -134,7 +169,7 @@ pub fn roundings(make: Make, width: u32, values: &[u64], alignments: &[u64]) -> 
 pub fn pages(make: Make, values: &[u64]) -> Option<()> {
     for &value in values {
         for op in [Op::PageUp, Op::Pages, Op::PageOffset] {
-            make(Request::new(op, value, 0, Map::EMPTY))?;
+            make(Request::new(op, value, 0, Map::empty(TREE)))?;
         }
     }
     Some(())
@@ -143,9 +178,9 @@ pub fn pages(make: Make, values: &[u64]) -> Option<()> {
 /// One bit at each of these places, and the mask between each two of them.
 pub fn masks(make: Make, places: &[u64]) -> Option<()> {
     for &start in places {
-        make(Request::new(Op::Bit, start, 0, Map::EMPTY))?;
+        make(Request::new(Op::Bit, start, 0, Map::empty(TREE)))?;
         for &end in places {
-            make(Request::new(Op::Mask, start, end, Map::EMPTY))?;
+            make(Request::new(Op::Mask, start, end, Map::empty(TREE)))?;
         }
     }
     Some(())
@@ -176,16 +211,14 @@ pub fn wide_numbers() -> Vec<u64> {
 
 /// Each word map, with other words and a summary that a word call must hand back as they are.
 fn word_maps() -> Vec<Map> {
-    let rest = Map { words: std::array::from_fn(|i| 0x0101_0101_0101_0101 * i as u64), summary: 0xa5c3 };
-    let with = |word| {
-        let mut map = rest;
-        map.words[0] = word;
-        map
+    let with = |word| Map {
+        words: (0..TREE).map(|i| if i == 0 { word } else { 0x0101_0101_0101_0101 * i as u64 }).collect(),
+        summaries: vec![0xa5c3],
     };
     WORDS.map(with).to_vec()
 }
 
-/// All of them.
+/// All of them, but for those of the third level.
 pub fn all(make: Make) -> Option<()> {
     let small: Vec<u64> = (0..=66).collect();
     let words = word_maps();
@@ -199,9 +232,32 @@ pub fn all(make: Make) -> Option<()> {
     pages(make, &wide_numbers())?;
     masks(make, &small)?;
     overlaps(make, &[0, 1, 2, 3, 1 << 63, TOP - 1, TOP])?;
-    let (trees, places, entries) = (tree_maps(), places(), entries());
-    ranges(make, Layout::Tree, &trees, &places, &entries)?;
-    takes(make, Layout::Tree, &trees, &entries, &EXPONENTS)?;
-    questions(make, Layout::Tree, &trees, &places)?;
-    in_place(make, &trees, &places, &entries, &EXPONENTS)
+    let trees = boundary_maps(TREE);
+    boundaries(make, Layout::Tree, &trees)?;
+    in_place(make, &trees, &places(1024), &entries(1024), &exponents(Layout::InPlace))
+}
+
+/// Those of the third level.
+pub fn thirds(make: Make) -> Option<()> {
+    let maps = third_maps();
+    boundaries(make, Layout::Third, &maps)?;
+    // at the boundaries of words within a tree
+    let (starts, entries) = ([63, 64, 65, 16319, 16320], [1, 2, 63, 64, 65, 129]);
+    ranges(make, Layout::Third, &maps, &starts, &entries)?;
+    takes(make, Layout::Third, &maps, &entries, &[0, 6])?;
+    questions(make, Layout::Third, &maps, &starts)?;
+    // with a summary at odds
+    let maps = odd_thirds();
+    let (starts, entries) = ([0, 1, 1023, 1024, 16383, 16384], [0, 1, 1024, 16384, 16385]);
+    ranges(make, Layout::Third, &maps, &starts, &entries)?;
+    takes(make, Layout::Third, &maps, &entries, &[0, 13, 14])?;
+    questions(make, Layout::Third, &maps, &starts)
+}
+
+/// The calls of a layout at its boundaries.
+fn boundaries(make: Make, layout: Layout, maps: &[Map]) -> Option<()> {
+    let (places, entries) = (places(layout.capacity()), entries(layout.capacity()));
+    ranges(make, layout, maps, &places, &entries)?;
+    takes(make, layout, maps, &entries, &exponents(layout))?;
+    questions(make, layout, maps, &places)
 }

@@ -1,6 +1,6 @@
 //! Random numbers, the same for the same seed, and random maps.
 
-use crate::map::Map;
+use crate::map::{Map, THIRD};
 
 pub struct Dice(u64);
 
@@ -35,61 +35,85 @@ impl Dice {
     }
 }
 
-/// A sound map: empty, full, of single slots or of runs, thin or dense.
-pub fn sound(dice: &mut Dice) -> Map {
-    match dice.below(8) {
-        0 => Map::EMPTY,
-        1 => Map::FULL,
-        2 | 3 => Map::of(single_slots(dice)),
-        4..=6 => runs(dice),
-        _ => holes(dice),
+/// A sound map of so many words: empty, full, of single slots or of runs, thin or dense; a third level also with a few
+/// runs in all.
+pub fn sound(dice: &mut Dice, words: usize) -> Map {
+    match dice.below(if words == THIRD { 11 } else { 8 }) {
+        0 => Map::empty(words),
+        1 => Map::full(words),
+        2 | 3 if words == THIRD => Map::of(third_slots(dice)),
+        2 | 3 => Map::of(single_slots(dice, words)),
+        4..=6 => runs(dice, words),
+        7 => few_runs(dice, Map::full(words), false),
+        _ => few_runs(dice, Map::empty(words), true),
     }
 }
 
-/// A sound map with some summary bits turned: one, a few or all.
-pub fn unsound(dice: &mut Dice) -> Map {
-    let mut map = sound(dice);
-    map.summary ^= match dice.below(4) {
+/// A sound map with some bits of a summary turned: one, a few or all.
+pub fn unsound(dice: &mut Dice, words: usize) -> Map {
+    let map = sound(dice, words);
+    let place = summary(dice, map.trees().len());
+    let bits = match dice.below(4) {
         0 | 1 => 1 << dice.below(16),
         2 => (dice.number() as u16).max(1),
         _ => u16::MAX,
     };
-    map
+    map.turned(place, bits)
+}
+
+/// The place of a summary: the one over all, or as often that of one of so many trees.
+fn summary(dice: &mut Dice, trees: usize) -> usize {
+    if trees == 0 || dice.one_in(2) {
+        trees
+    } else {
+        dice.below(trees as u64) as usize
+    }
 }
 
 /// Each slot is used by chance, the same chance for all.
-fn single_slots(dice: &mut Dice) -> [u64; 16] {
+fn single_slots(dice: &mut Dice, words: usize) -> Vec<u64> {
     let (halvings, dense) = (dice.below(5), dice.one_in(2));
-    std::array::from_fn(|_| {
+    let word = |_| {
         let thin = (0..halvings).fold(dice.number(), |word, _| word & dice.number());
         if dense {
             !thin
         } else {
             thin
         }
-    })
+    };
+    (0..words).map(word).collect()
+}
+
+/// Single slots in all the words of a third level, or mostly in a few in a row, with each other slot used or none.
+fn third_slots(dice: &mut Dice) -> Vec<u64> {
+    let mut words = vec![if dice.one_in(2) { u64::MAX } else { 0 }; THIRD];
+    let some = if dice.one_in(12) { THIRD } else { 1 + dice.below(40) as usize };
+    let first = dice.below((THIRD - some + 1) as u64) as usize;
+    words[first..first + some].copy_from_slice(&single_slots(dice, some));
+    words
 }
 
 /// Used and free runs by turns, each up to a length.
-fn runs(dice: &mut Dice) -> Map {
-    let (longest_used, longest_free) = (dice.among(&[1, 4, 30, 130, 500]), dice.among(&[1, 4, 30, 130, 500]));
-    let mut map = Map::EMPTY;
+fn runs(dice: &mut Dice, words: usize) -> Map {
+    let lengths: &[u64] = if words == THIRD { &[30, 130, 500, 2000, 6000] } else { &[1, 4, 30, 130, 500] };
+    let (longest_used, longest_free) = (dice.among(lengths), dice.among(lengths));
+    let mut map = Map::empty(words);
     let mut slot = dice.below(longest_free + 1);
-    while slot < 1024 {
-        let end = 1024.min(slot + 1 + dice.below(longest_used));
+    while slot < map.capacity() {
+        let end = map.capacity().min(slot + 1 + dice.below(longest_used));
         map.paint(slot, end, true);
         slot = end + 1 + dice.below(longest_free);
     }
     Map::of(map.words)
 }
 
-/// Full but for a few runs.
-fn holes(dice: &mut Dice) -> Map {
-    let mut map = Map::FULL;
+/// The map but for a few runs of this value.
+fn few_runs(dice: &mut Dice, mut map: Map, value: bool) -> Map {
+    let lengths: &[u64] = if map.words.len() == THIRD { &[1, 3, 64, 1100, 5000] } else { &[1, 3, 64, 200] };
     for _ in 0..1 + dice.below(6) {
-        let start = dice.below(1024);
-        let longest = dice.among(&[1, 3, 64, 200]);
-        map.paint(start, 1024.min(start + 1 + dice.below(longest)), false);
+        let start = dice.below(map.capacity());
+        let longest = dice.among(lengths);
+        map.paint(start, map.capacity().min(start + 1 + dice.below(longest)), value);
     }
     Map::of(map.words)
 }

@@ -3,14 +3,14 @@
 use crate::calls::{Op, Request, Way};
 use crate::cases::Make;
 use crate::dice::{self, Dice};
-use crate::map::Map;
+use crate::map::{Map, TREE};
 
 /// A few calls, on maps that must be handed back as they came.
 pub fn some(dice: &mut Dice, make: Make) -> Option<()> {
     for _ in 0..4 {
-        let map = if dice.one_in(2) { dice::unsound(dice) } else { Map::EMPTY };
+        let map = if dice.one_in(2) { dice::unsound(dice, TREE) } else { Map::empty(TREE) };
         for _ in 0..8 {
-            make(helper(dice, map))?;
+            make(helper(dice, map.clone()))?;
         }
     }
     Some(())

@@ -3,7 +3,7 @@
 use crate::calls::{Act, Layout, Op, Outcome, Request, Way};
 use crate::cases::{self, Make, TOP};
 use crate::dice::Dice;
-use crate::map::Map;
+use crate::map::{Map, TREE};
 use crate::{helpers, random, rules, show, source};
 use std::fmt::Write;
 
@@ -16,14 +16,15 @@ const HEAD: &str = "\
 #
 # `map` says the map of the calls below it: the words that are not 0, place:word, equal words in a row as
 # first-last:word, `-` for none; after them /summary where the summary does not fit the words. A word call is
-# made on word 0.
+# made on word 0. `map third` is one of 256 words: /tree:summary is the summary of a tree and /summary the one over
+# them, where it is not that of the sound map.
 #
 # CALL = ANSWER; CHANGE is a call on that map. The numbers of a call: take N EXPONENT; claim, free START N;
 # set START N on|off; next_free START; get SLOT; align_.., is_aligned_.. VALUE ALIGNMENT; overlap FIRST LAST
 # FIRST LAST, on an empty map of its own; mask START END; the others have one or none. The answer is done, a
 # number, yes or no, `not found` for the original's None, or `none: REASON` where it has no answer. The
 # change, of a call that may change its map, is `same`, or the words that are others than before and
-# /summary where it is another. `then` before a call: its map, and that of the calls below it, is what the
+# each summary that is another. `then` before a call: its map, and that of the calls below it, is what the
 # line above left.
 ";
 
@@ -46,22 +47,23 @@ impl List {
     fn line(&mut self, request: &Request) -> Map {
         let original = source::carried_out(request);
         let call = format!("{} = {}", show::call(request), said(request, &original));
-        let _ = match Some(request.map) {
-            map if map == self.map || request.op == Op::Overlap => writeln!(self.text, "{call}"),
-            map if map == self.left => writeln!(self.text, "then {call}"),
+        let _ = match Some(&request.map) {
+            map if map == self.map.as_ref() || request.op == Op::Overlap => writeln!(self.text, "{call}"),
+            map if map == self.left.as_ref() => writeln!(self.text, "then {call}"),
             _ => writeln!(self.text, "map {}\n{call}", show::map(&request.map)),
         };
         if request.op != Op::Overlap {
-            self.map = Some(request.map);
+            self.map = Some(request.map.clone());
         }
+        let on = rules::went_on(request, &original).clone();
         self.left = Some(original.map);
-        rules::went_on(request, &original)
+        on
     }
 }
 
 /// An overlap's line tells its four ends, so its map has nothing but the last two.
 fn alone(request: Request) -> Request {
-    let [first, last, ..] = request.map.words;
+    let (first, last) = request.ends();
     match request.op {
         Op::Overlap => Request::overlap(request.x, request.y, first, last),
         _ => request,
@@ -84,28 +86,31 @@ fn calls(seed: u64, make: Make) -> Option<()> {
     tree_calls(make)?;
     odd_summaries(make)?;
     helper_calls(make)?;
-    random_calls(seed, make)
+    random_calls(seed, make)?;
+    third_calls(make)?;
+    third_series(seed, make)
 }
 
 /// For each listed departure the smallest call that shows it.
 fn smallest_departures(make: Make) -> Option<()> {
     let tree = |act, x, y, map| Request::new(Op::Slots(Layout::Tree, act), x, y, map);
     let word = |act, x, y, map| Request::new(Op::Slots(Layout::Word, act), x, y, map);
-    let at_odds = Map { summary: 1, ..Map::EMPTY };
+    let (empty, full) = (|| Map::empty(TREE), || Map::full(TREE));
+    let at_odds = || empty().turned(0, 1);
     let calls = [
-        tree(Act::Empty, 0, 0, at_odds),
-        tree(Act::Get, 0, 0, at_odds),
-        tree(Act::Free, 1, 0, Map::FULL),
-        word(Act::Free, 0, 0, Map::FULL),
-        tree(Act::Take, 0, 10, Map::EMPTY),
-        word(Act::Take, 0, 6, Map::EMPTY),
-        Request::set(Layout::Tree, 1023, 2, true, Map::EMPTY),
-        Request::set(Layout::Tree, 1024, 1, true, Map::EMPTY),
-        tree(Act::NextFree, 1024, 0, Map::EMPTY),
-        Request::new(Op::Mask, 2, 64, Map::EMPTY),
+        tree(Act::Empty, 0, 0, at_odds()),
+        tree(Act::Get, 0, 0, at_odds()),
+        tree(Act::Free, 1, 0, full()),
+        word(Act::Free, 0, 0, full()),
+        tree(Act::Take, 0, 10, empty()),
+        word(Act::Take, 0, 6, empty()),
+        Request::set(Layout::Tree, 1023, 2, true, empty()),
+        Request::set(Layout::Tree, 1024, 1, true, empty()),
+        tree(Act::NextFree, 1024, 0, empty()),
+        Request::new(Op::Mask, 2, 64, empty()),
         tree(Act::Free, 0, 2, Map::of_word(1)),
         word(Act::Free, 0, 2, Map::of_word(1)),
-        Request::new(Op::Round(Way::Up, 64), 1, 3, Map::EMPTY),
+        Request::new(Op::Round(Way::Up, 64), 1, 3, empty()),
         Request::overlap(1, 0, 0, 1),
         Request::overlap(5, 3, 0, 10),
     ];
@@ -127,7 +132,7 @@ fn word_calls(make: Make) -> Option<()> {
 }
 
 fn tree_calls(make: Make) -> Option<()> {
-    let maps = cases::tree_maps();
+    let maps = cases::boundary_maps(TREE);
     let starts = [0, 1, 63, 64, 65, 512, 960, 1022, 1023, 1024, 1025];
     let entries = [0, 1, 2, 63, 64, 65, 1023, 1024, 1025];
     let far = [1 << 32, 1 << 63, TOP - 1, TOP];
@@ -141,8 +146,8 @@ fn tree_calls(make: Make) -> Option<()> {
 }
 
 fn odd_summaries(make: Make) -> Option<()> {
-    let turned = |map: Map, bits: u16| Map { summary: map.summary ^ bits, ..map };
-    let maps = [turned(Map::EMPTY, 1), turned(Map::FULL, 1 << 15), turned(cases::tree_maps()[2], 0x0006)];
+    let some = Map::only(TREE, &[(0, 1), (15, 1 << 63)]);
+    let maps = [Map::empty(TREE).turned(0, 1), Map::full(TREE).turned(0, 1 << 15), some.turned(0, 0x0006)];
     let entries = [0, 1, 64, 1024, 1025];
     cases::ranges(make, Layout::Tree, &maps, &[0, 1, 64, 1023, 1024], &entries)?;
     cases::takes(make, Layout::Tree, &maps, &entries, &[0, 9, 10])?;
@@ -166,12 +171,39 @@ fn helper_calls(make: Make) -> Option<()> {
 fn random_calls(seed: u64, make: Make) -> Option<()> {
     let mut dice = Dice::new(seed);
     for _ in 0..50 {
-        random::series(&mut dice, make)?;
+        random::any_series(&mut dice, make)?;
     }
     for _ in 0..4 {
-        random::boundaries(&mut dice, make)?;
-        random::odd_summaries(&mut dice, make)?;
+        random::any_boundaries(&mut dice, make)?;
+        random::any_odd_summaries(&mut dice, make)?;
         helpers::some(&mut dice, make)?;
     }
     Some(())
+}
+
+fn third_calls(make: Make) -> Option<()> {
+    let maps = short_thirds();
+    let starts = [0, 1023, 1024, 15360, 16383, 16384];
+    cases::ranges(make, Layout::Third, &maps[..3], &starts, &[0, 1, 1025, 16384, 16385])?;
+    cases::takes(make, Layout::Third, &maps, &[1, 1025, 16384], &[0, 13])?;
+    cases::takes(make, Layout::Third, &maps[..2], &[0, 1, 16384, 16385, TOP], &[0, 13, 14, TOP])?;
+    cases::questions(make, Layout::Third, &maps, &[0, 1023, 16383, 16384])?;
+    let odd = cases::odd_thirds();
+    cases::ranges(make, Layout::Third, &odd, &[1023], &[1, 2])?;
+    cases::takes(make, Layout::Third, &odd, &[0, 1], &[0, 13])?;
+    cases::questions(make, Layout::Third, &odd, &[0, 16384])
+}
+
+/// A random series of the third level on each of some maps.
+fn third_series(seed: u64, make: Make) -> Option<()> {
+    let mut dice = Dice::new(seed);
+    for map in short_thirds().into_iter().step_by(3) {
+        random::third_series_on(&mut dice, map, make)?;
+    }
+    Some(())
+}
+
+/// Maps of a third level that are short to tell.
+fn short_thirds() -> Vec<Map> {
+    cases::third_maps().into_iter().filter(|map| show::map(map).len() < 300).collect()
 }

@@ -1,7 +1,7 @@
 //! Compares the slot map with the original, call by call.
 //!
-//!     compare [--calls N] [--seed S] -- COMMAND [ARGUMENT..]     COMMAND runs `compared_calls`
-//!     compare [--seed S] --list                                  prints the stored list
+//!     compare [--calls N] [--third M] [--seed S] -- COMMAND [ARGUMENT..]     COMMAND runs `compared_calls`
+//!     compare [--seed S] --list                                              prints the stored list
 //!
 //! tests/compare-original builds it and runs it. The status is 1 where a difference is found, 2 where the
 //! comparison cannot be made.
@@ -23,6 +23,7 @@ mod stubs;
 mod tally;
 
 use calls::{Outcome, Request};
+use cases::Make;
 use program::Program;
 use rules::Verdict;
 use shrink::Difference;
@@ -39,14 +40,20 @@ use stubs::{address, types};
 /// So many calls are made, written and judged at a time.
 const BLOCK: usize = 1024;
 
-/// From so many calls on, each kind of call and each departure has to be among them.
-const ENOUGH: u64 = 1_000_000;
-
 struct Options {
     calls: u64,
+    third: Option<u64>,
     seed: u64,
     list: bool,
     command: Vec<String>,
+}
+
+/// The calls come in two parts: those of the third level, and before them all others.
+#[derive(Clone, Copy)]
+struct Part {
+    third: bool,
+    calls: u64,
+    seed: u64,
 }
 
 /// A call and what the original made of it.
@@ -63,12 +70,51 @@ fn main() {
         std::io::stdout().write_all(list.as_bytes()).unwrap_or_else(|error| fail(&error.to_string()));
         return;
     }
+    let Options { calls, third, seed, command, .. } = options;
+    tell(Part { third: false, calls, seed }, &command);
+    tell(Part { third: true, calls: third.unwrap_or(calls / 5), seed }, &command);
+}
+
+/// Compares a part, where it has calls, and prints what was seen.
+fn tell(part: Part, command: &[String]) {
+    if part.calls == 0 {
+        return;
+    }
     let began = Instant::now();
-    let tally = compared(&options).unwrap_or_else(|words| fail(&words));
-    println!("{} calls of seed {} in {} s", tally.calls, options.seed, began.elapsed().as_secs());
+    let tally = compared(part, command).unwrap_or_else(|words| fail(&words));
+    let seconds = began.elapsed().as_secs();
+    println!("{} calls {} of seed {} in {seconds} s", tally.calls, part.name(), part.seed);
     println!("{tally}0 unlisted differences");
-    if options.calls >= ENOUGH && !tally.absent().is_empty() {
-        fail(&format!("nothing was seen of: {}", tally.absent().join(", ")));
+    let absent = tally.absent(part.third);
+    if part.calls >= part.enough() && !absent.is_empty() {
+        fail(&format!("nothing was seen of: {}", absent.join(", ")));
+    }
+}
+
+impl Part {
+    fn name(self) -> &'static str {
+        if self.third {
+            "of the third level"
+        } else {
+            "of the word, the tree and the helpers"
+        }
+    }
+
+    /// From so many calls on, each kind of call and each departure has to be among them.
+    fn enough(self) -> u64 {
+        if self.third {
+            200_000
+        } else {
+            1_000_000
+        }
+    }
+
+    fn made(self, make: Make) -> Option<()> {
+        if self.third {
+            cases::thirds(make).and_then(|()| random::thirds(self.seed, make))
+        } else {
+            cases::all(make).and_then(|()| random::all(self.seed, make))
+        }
     }
 }
 
@@ -78,16 +124,21 @@ fn fail(words: &str) -> ! {
 }
 
 fn options() -> Result<Options, String> {
-    let mut options = Options { calls: 10_000_000, seed: 1, list: false, command: Vec::new() };
+    let mut options = Options { calls: 10_000_000, third: None, seed: 1, list: false, command: Vec::new() };
     let mut given = std::env::args().skip(1);
     while let Some(word) = given.next() {
         let mut number = || given.next().and_then(|n| n.parse().ok()).ok_or(format!("{word} needs a number"));
         match word.as_str() {
             "--calls" => options.calls = number()?,
+            "--third" => options.third = Some(number()?),
             "--seed" => options.seed = number()?,
             "--list" => options.list = true,
             "--" => options.command = given.by_ref().collect(),
-            _ => return Err(format!("{word} is no option; there are --calls N, --seed S and --list")),
+            _ => {
+                return Err(format!(
+                    "{word} is no option; there are --calls N, --third M, --seed S and --list"
+                ))
+            }
         }
     }
     if !options.list && options.command.is_empty() {
@@ -97,15 +148,14 @@ fn options() -> Result<Options, String> {
 }
 
 /// Makes the calls in one thread, which also writes them to the program; reads and judges its answers in this.
-fn compared(options: &Options) -> Result<Tally, String> {
-    let (mut program, input) = Program::start(&options.command)?;
+fn compared(part: Part, command: &[String]) -> Result<Tally, String> {
+    let (mut program, input) = Program::start(command)?;
     let (sender, receiver) = mpsc::channel();
-    let (count, seed) = (options.calls, options.seed);
-    let maker = thread::spawn(move || make_calls(count, seed, sender, input));
+    let maker = thread::spawn(move || make_calls(part, sender, input));
     let mut tally = Tally::default();
     if let Some(difference) = first_difference(&mut program, receiver, &mut tally)? {
         program.stop();
-        explain(options, tally.calls, difference);
+        explain(part, command, tally.calls, difference);
         exit(1);
     }
     maker.join().map_err(|_| "the thread that makes the calls failed")?;
@@ -113,9 +163,9 @@ fn compared(options: &Options) -> Result<Tally, String> {
     Ok(tally)
 }
 
-/// Makes so many calls, in blocks; a block goes to the judge first, so that its answers are read while it is
+/// Makes a part's calls, in blocks; a block goes to the judge first, so that its answers are read while it is
 /// being written. It ends early where the program does.
-fn make_calls(count: u64, seed: u64, judge: Sender<Vec<Made>>, mut input: ChildStdin) {
+fn make_calls(part: Part, judge: Sender<Vec<Made>>, mut input: ChildStdin) {
     let mut made = 0;
     let mut block: Vec<Made> = Vec::with_capacity(BLOCK);
     let mut hand_over = |block: &mut Vec<Made>| {
@@ -124,18 +174,19 @@ fn make_calls(count: u64, seed: u64, judge: Sender<Vec<Made>>, mut input: ChildS
         input.write_all(&bytes).ok()
     };
     let mut make = |request: Request| {
-        if made == count {
+        if made == part.calls {
             return None;
         }
         made += 1;
         let original = source::carried_out(&request);
+        let left = rules::went_on(&request, &original).clone();
         block.push((request, original));
         if block.len() == BLOCK {
             hand_over(&mut block)?;
         }
-        Some(rules::went_on(&request, &original))
+        Some(left)
     };
-    let _ = cases::all(&mut make).and_then(|()| random::all(seed, &mut make));
+    let _ = part.made(&mut make);
     let _ = hand_over(&mut block);
 }
 
@@ -145,19 +196,20 @@ fn first_difference(
     tally: &mut Tally,
 ) -> Result<Option<Difference>, String> {
     for block in blocks {
-        let answers = program.answers(block.len())?;
-        for ((request, original), ours) in block.iter().zip(&answers) {
-            let verdict = rules::judged(request, original, ours);
-            tally.note(request, verdict);
+        let answers = program.answers(block.iter().map(|(request, _)| request))?;
+        let unanswered = block.get(answers.len()).cloned();
+        for ((request, original), ours) in block.into_iter().zip(answers) {
+            let verdict = rules::judged(&request, &original, &ours);
+            tally.note(&request, verdict);
             if verdict == Verdict::Unlisted {
-                return Ok(Some(Difference { request: *request, original: *original, ours: *ours }));
+                return Ok(Some(Difference { request, original, ours }));
             }
         }
-        if let Some((request, _)) = block.get(answers.len()) {
+        if let Some((request, _)) = unanswered {
             let place = tally.calls + 1;
             return Err(format!(
                 "the program ends before its answer to call {place}: {}",
-                show::call(request)
+                show::call(&request)
             ));
         }
         progress(tally.calls);
@@ -172,22 +224,26 @@ fn progress(calls: u64) {
 }
 
 /// Shows a difference at its smallest, and how to see it again.
-fn explain(options: &Options, place: u64, found: Difference) {
+fn explain(part: Part, command: &[String], place: u64, found: Difference) {
     println!(
-        "call {place} of seed {} differs, and it is no listed departure: {}",
-        options.seed,
+        "call {place} {} of seed {} differs, and it is no listed departure: {}",
+        part.name(),
+        part.seed,
         show::call(&found.request)
     );
-    let Difference { request, original, ours } = shrink::smallest(&options.command, found);
+    let Difference { request, original, ours } = shrink::smallest(command, found);
     println!("the smallest such call that was found:");
     println!("  call      {}", show::call(&request));
     println!("  map       {}", show::map_and_slots(&request.map));
-    println!("  original  {}", show::outcome(&request.map, &original));
-    println!("  ours      {}", show::outcome(&request.map, &ours));
+    println!("  original  {}", show::outcome(&request.map, &original.answer, &original.map));
+    println!("  ours      {}", show::outcome(&request.map, &ours.answer, &ours.map));
     match rules::due(&request, &original) {
-        Some(due) if due == ours => println!("  expected  ours; but no departure says this of the original"),
-        Some(due) => println!("  expected  {}", show::outcome(&request.map, &due)),
+        Some(due) if due == (ours.answer, &ours.map) => {
+            println!("  expected  ours; but no departure says this of the original");
+        }
+        Some((answer, map)) => println!("  expected  {}", show::outcome(&request.map, &answer, map)),
         None => println!("  expected  a refusal; but the paper has none for this call"),
     }
-    println!("again: tests/compare-original --seed {} --calls {place}", options.seed);
+    let (calls, third) = if part.third { (0, place) } else { (place, 0) };
+    println!("again: tests/compare-original --seed {} --calls {calls} --third {third}", part.seed);
 }

@@ -1,6 +1,6 @@
 //! The program `compared_calls`: it is started, given requests and asked for its answers.
 
-use crate::calls::{Outcome, Request, SIZE};
+use crate::calls::{Outcome, Request};
 use std::io::{Read, Write};
 use std::process::{Child, ChildStdin, ChildStdout, Command, Stdio};
 use std::thread;
@@ -24,12 +24,20 @@ impl Program {
         Ok((Program { child, output }, input))
     }
 
-    /// The next answers, fewer than asked for where the program ends before.
-    pub fn answers(&mut self, count: usize) -> Result<Vec<Outcome>, String> {
-        let mut bytes = Vec::with_capacity(count * SIZE);
-        let mut part = self.output.by_ref().take((count * SIZE) as u64);
+    /// The answers to these, fewer where the program ends before.
+    pub fn answers<'a>(&mut self, asked: impl Iterator<Item = &'a Request>) -> Result<Vec<Outcome>, String> {
+        let sizes: Vec<usize> = asked.map(Request::size).collect();
+        let all = sizes.iter().sum();
+        let mut bytes = Vec::with_capacity(all);
+        let mut part = self.output.by_ref().take(all as u64);
         part.read_to_end(&mut bytes).map_err(|error| format!("the answers cannot be read: {error}"))?;
-        Ok(bytes.chunks_exact(SIZE).map(Outcome::read).collect())
+        let mut rest = &bytes[..];
+        let next = |size| {
+            let answer;
+            (answer, rest) = rest.split_at_checked(size)?;
+            Some(Outcome::read(answer))
+        };
+        Ok(sizes.into_iter().map_while(next).collect())
     }
 
     /// Waits for its end, once its input has ended; nothing may follow the last answer.
@@ -54,7 +62,9 @@ impl Program {
 }
 
 pub fn bytes_of<'a>(requests: impl Iterator<Item = &'a Request>) -> Vec<u8> {
-    requests.flat_map(Request::bytes).collect()
+    let mut bytes = Vec::new();
+    requests.for_each(|request| request.put(&mut bytes));
+    bytes
 }
 
 /// The answers to a few requests, by a run of its own; fewer where the program ends before.
@@ -62,7 +72,7 @@ pub fn asked(command: &[String], requests: &[Request]) -> Result<Vec<Outcome>, S
     let (mut program, mut input) = Program::start(command)?;
     let bytes = bytes_of(requests.iter());
     let writer = thread::spawn(move || input.write_all(&bytes));
-    let answers = program.answers(requests.len());
+    let answers = program.answers(requests.iter());
     program.stop();
     let _ = writer.join();
     answers

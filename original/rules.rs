@@ -17,7 +17,7 @@ pub enum Verdict {
 
 /// Compares what the original and ours made of a call.
 pub fn judged(request: &Request, original: &Outcome, ours: &Outcome) -> Verdict {
-    if due(request, original) != Some(*ours) {
+    if due(request, original) != Some((ours.answer, &ours.map)) {
         return Verdict::Unlisted;
     }
     match (original.answer, ours.answer) {
@@ -33,15 +33,15 @@ pub fn judged(request: &Request, original: &Outcome, ours: &Outcome) -> Verdict 
 
 /// What ours must answer and leave; a refusal leaves the map as it came. Nothing where neither the paper nor
 /// the original says what.
-pub fn due(request: &Request, original: &Outcome) -> Option<Outcome> {
+pub fn due<'a>(request: &'a Request, original: &'a Outcome) -> Option<(Answer, &'a Map)> {
     let answer = match (refusal(request), original.answer) {
         (Some(number), _) => Answer::Refused(number),
         (None, Answer::NotFound) => Answer::Refused(7),
         (None, Answer::Missing(_)) if is_whole_mask(request) => Answer::Number(u64::MAX),
         (None, Answer::Missing(_)) => return None,
-        (None, _) => return Some(*original),
+        (None, answer) => return Some((answer, &original.map)),
     };
-    Some(Outcome { answer, map: request.map })
+    Some((answer, &request.map))
 }
 
 /// The mask of all 64 bits, the one accepted call that the original has no answer to: it shifts by 64.
@@ -56,18 +56,18 @@ fn none_is(request: &Request, number: u64) -> bool {
 }
 
 /// The map that a series goes on with: what the original left, or the map before a call that is refused.
-pub fn went_on(request: &Request, original: &Outcome) -> Map {
+pub fn went_on<'a>(request: &'a Request, original: &'a Outcome) -> &'a Map {
     if refusal(request).is_some() {
-        request.map
+        &request.map
     } else {
-        original.map
+        &original.map
     }
 }
 
 /// The smallest refusal that applies, but for 7: whether there is room the original's search says.
 pub fn refusal(request: &Request) -> Option<u64> {
     let (x, y) = (request.x, request.y);
-    let [first, last, ..] = request.map.words;
+    let (first, last) = request.ends();
     match request.op {
         Op::Slots(layout, act) => slots_refusal(layout, act, request),
         Op::Round(Way::Up, width) => first_of(&[(!y.is_power_of_two(), 8), (x > highest(width, y), 9)]),

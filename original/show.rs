@@ -1,13 +1,13 @@
 //! Calls, maps and answers as text, the same in the list and in what is printed of a difference.
 
-use crate::calls::{Act, Answer, Op, Outcome, Request};
-use crate::map::Map;
+use crate::calls::{Act, Answer, Op, Request};
+use crate::map::{Map, THIRD};
 
 /// The call's name and numbers.
 pub fn call(request: &Request) -> String {
-    let Request { op, flag, x, y, map } = request;
+    let Request { op, flag, x, y, .. } = request;
     let name = op.name();
-    let [first, last, ..] = map.words;
+    let (first, last) = request.ends();
     match op {
         Op::Slots(_, Act::Set) => format!("{name} {x} {y} {}", if *flag { "on" } else { "off" }),
         Op::Slots(_, Act::NextFree | Act::Get) => format!("{name} {x}"),
@@ -30,26 +30,27 @@ pub fn answer(answer: &Answer) -> String {
     }
 }
 
-/// The words that are not 0, in hex, and the summary where it does not fit.
+/// The words that are not 0, in hex, and the summaries that are not those of the sound map.
 pub fn map(map: &Map) -> String {
-    let summary = (!map.is_sound()).then_some(map.summary);
-    parts(&map.words, |i| map.words[i] != 0, summary, "-")
+    let size = if map.words.len() == THIRD { "third " } else { "" };
+    let sound = Map::of(map.words.clone());
+    size.to_string() + &parts(map, |i| map.words[i] != 0, &sound, "-")
 }
 
-/// The words that are others than before, and the summary where it is another.
+/// The words and the summaries that are others than before.
 pub fn change(before: &Map, after: &Map) -> String {
-    let summary = (after.summary != before.summary).then_some(after.summary);
-    parts(&after.words, |i| after.words[i] != before.words[i], summary, "same")
+    parts(after, |i| after.words[i] != before.words[i], before, "same")
 }
 
-/// Equal words in a row share a part.
-fn parts(words: &[u64; 16], shown: impl Fn(usize) -> bool, summary: Option<u16>, nothing: &str) -> String {
+/// Equal words in a row share a part. A summary is told where that map has another.
+fn parts(map: &Map, shown: impl Fn(usize) -> bool, than: &Map, nothing: &str) -> String {
+    let words = &map.words;
     let mut parts = Vec::new();
     let mut i = 0;
-    while i < 16 {
+    while i < words.len() {
         let mut next = i + 1;
         if shown(i) {
-            while next < 16 && shown(next) && words[next] == words[i] {
+            while next < words.len() && shown(next) && words[next] == words[i] {
                 next += 1;
             }
             let places = if next == i + 1 { i.to_string() } else { format!("{i}-{}", next - 1) };
@@ -57,7 +58,13 @@ fn parts(words: &[u64; 16], shown: impl Fn(usize) -> bool, summary: Option<u16>,
         }
         i = next;
     }
-    parts.extend(summary.map(|summary| format!("/{summary:x}")));
+    for (i, summary) in map.trees().iter().enumerate().filter(|(i, summary)| **summary != than.summaries[*i])
+    {
+        parts.push(format!("/{i}:{summary:x}"));
+    }
+    if map.summary() != than.summary() {
+        parts.push(format!("/{:x}", map.summary()));
+    }
     if parts.is_empty() {
         nothing.into()
     } else {
@@ -66,12 +73,12 @@ fn parts(words: &[u64; 16], shown: impl Fn(usize) -> bool, summary: Option<u16>,
 }
 
 /// An answer and the map that it leaves.
-pub fn outcome(before: &Map, outcome: &Outcome) -> String {
-    let answer = answer(&outcome.answer);
-    if outcome.map == *before {
-        format!("{answer}, leaves the map as it came")
+pub fn outcome(before: &Map, said: &Answer, after: &Map) -> String {
+    let said = answer(said);
+    if after == before {
+        format!("{said}, leaves the map as it came")
     } else {
-        format!("{answer}, leaves {}", map_and_slots(&outcome.map))
+        format!("{said}, leaves {}", map_and_slots(after))
     }
 }
 
@@ -83,8 +90,8 @@ pub fn map_and_slots(given: &Map) -> String {
 fn runs(map: &Map) -> String {
     let mut runs = Vec::new();
     let mut slot = 0;
-    while slot < 1024 {
-        let end = (slot..1024).find(|&end| !map.is_used(end)).unwrap_or(1024);
+    while slot < map.capacity() {
+        let end = (slot..map.capacity()).find(|&end| !map.is_used(end)).unwrap_or(map.capacity());
         if end > slot {
             runs.push(if end == slot + 1 { slot.to_string() } else { format!("{slot}..{}", end - 1) });
         }

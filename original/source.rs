@@ -2,14 +2,18 @@
 //! has no answer, and the first words of the panic say why.
 
 use crate::calls::{Act, Answer, Layout, Op, Outcome, Request, Way};
-use crate::map::Map;
-use bitmap::BitmapAllocator;
+use crate::map::{Map, THIRD, TREE};
+use bitmap::{BitmapAllocator, BitmapAllocator1024, BitmapAllocator16384, BitmapAllocator64};
 use std::cell::{Cell, RefCell};
 use std::panic;
 
 /// bitmap_allocator.rs, and beside it the ways into its maps and out of them.
 mod bitmap {
     include!(concat!(env!("ORIGINAL"), "/kernel/src/utils/bitmap_allocator.rs"));
+    use crate::map::Map;
+
+    /// The third level, which has no name in the file.
+    pub type BitmapAllocator16384 = BitmapAllocatorTree<BitmapAllocator1024>;
 
     pub fn word_of(bits: u64) -> BitmapAllocator64 {
         BitmapAllocator64 { bits }
@@ -19,12 +23,23 @@ mod bitmap {
         word.bits
     }
 
-    pub fn tree_of(words: [u64; 16], summary: u16) -> BitmapAllocator1024 {
-        BitmapAllocatorTree { bits: summary, child: words.map(word_of) }
+    pub fn tree_of(words: &[u64], summary: u16) -> BitmapAllocator1024 {
+        BitmapAllocatorTree { bits: summary, child: std::array::from_fn(|i| word_of(words[i])) }
     }
 
-    pub fn words_of(tree: &BitmapAllocator1024) -> ([u64; 16], u16) {
-        (tree.child.map(|word| word.bits), tree.bits)
+    pub fn third_of(map: &Map) -> BitmapAllocator16384 {
+        let tree = |i| tree_of(&map.words[16 * i..], map.trees()[i]);
+        BitmapAllocatorTree { bits: map.summary(), child: std::array::from_fn(tree) }
+    }
+
+    pub fn map_of_tree(tree: &BitmapAllocator1024) -> Map {
+        Map { words: tree.child.iter().map(bits_of).collect(), summaries: vec![tree.bits] }
+    }
+
+    pub fn map_of_third(third: &BitmapAllocator16384) -> Map {
+        let words = third.child.iter().flat_map(|tree| tree.child.iter().map(bits_of));
+        let summaries = third.child.iter().map(|tree| tree.bits).chain([third.bits]);
+        Map { words: words.collect(), summaries: summaries.collect() }
     }
 }
 
@@ -49,17 +64,19 @@ thread_local! {
     static REASONS: RefCell<Vec<&'static str>> = const { RefCell::new(Vec::new()) };
 }
 
-/// The original's empty and full maps are those that a series starts from, and its capacities are the paper's.
+/// The original's empty and full maps are those that a series starts from, and its capacities are the paper's. Its
+/// third level has the default alone.
 pub fn starts_alike() -> bool {
-    use bitmap::{bits_of, words_of, BitmapAllocator1024, BitmapAllocator64};
+    use bitmap::{bits_of, map_of_third, map_of_tree};
     let trees =
         [BitmapAllocator1024::new_empty(), BitmapAllocator1024::default(), BitmapAllocator1024::new_full()];
     let words = [BitmapAllocator64::new_empty(), BitmapAllocator64::default(), BitmapAllocator64::new_full()];
-    let expected = [Map::EMPTY, Map::EMPTY, Map::FULL];
-    trees[0].capacity() == 1024
-        && words[0].capacity() == 64
-        && trees.iter().zip(&expected).all(|(tree, map)| words_of(tree) == (map.words, map.summary))
+    let third = BitmapAllocator16384::default();
+    let expected = [Map::empty(TREE), Map::empty(TREE), Map::full(TREE)];
+    (words[0].capacity(), trees[0].capacity(), third.capacity()) == (64, 1024, 16384)
+        && trees.iter().zip(&expected).all(|(tree, map)| map_of_tree(tree) == *map)
         && words.iter().zip(&expected).all(|(word, map)| bits_of(word) == map.words[0])
+        && map_of_third(&third) == Map::empty(THIRD)
 }
 
 /// From now on a panic of the original prints nothing; any other is told as always.
@@ -82,7 +99,7 @@ pub fn carried_out(request: &Request) -> Outcome {
         Err(panic) => {
             let said = panic.downcast_ref::<String>().map(String::as_str);
             let said = said.or(panic.downcast_ref::<&str>().copied()).unwrap_or("a panic");
-            Outcome { answer: Answer::Missing(reason(said)), map: request.map }
+            Outcome { answer: Answer::Missing(reason(said)), map: request.map.clone() }
         }
     }
 }
@@ -101,24 +118,27 @@ fn reason(said: &str) -> &'static str {
 }
 
 fn answered(request: &Request) -> Outcome {
-    let mut map = request.map;
-    let answer = match request.op {
+    let map = &request.map;
+    match request.op {
         Op::Slots(Layout::Word, act) => {
             let mut word = bitmap::word_of(map.words[0]);
             let answer = slots(&mut word, act, request);
+            let mut map = map.clone();
             map.words[0] = bitmap::bits_of(&word);
-            answer
+            Outcome { answer, map }
+        }
+        Op::Slots(Layout::Third, act) => {
+            let mut third = bitmap::third_of(map);
+            let answer = slots(&mut third, act, request);
+            Outcome { answer, map: bitmap::map_of_third(&third) }
         }
         Op::Slots(_, act) => {
-            let mut tree = bitmap::tree_of(map.words, map.summary);
+            let mut tree = bitmap::tree_of(&map.words, map.summary());
             let answer = slots(&mut tree, act, request);
-            let (words, summary) = bitmap::words_of(&tree);
-            map = Map { words, summary };
-            answer
+            Outcome { answer, map: bitmap::map_of_tree(&tree) }
         }
-        _ => helper(request),
-    };
-    Outcome { answer, map }
+        _ => Outcome { answer: helper(request), map: map.clone() },
+    }
 }
 
 fn slots(map: &mut impl BitmapAllocator, act: Act, request: &Request) -> Answer {
@@ -148,7 +168,7 @@ fn found(slot: Option<usize>) -> Answer {
 
 fn helper(request: &Request) -> Answer {
     let (x, y) = (request.x, request.y);
-    let [first, last, ..] = request.map.words;
+    let (first, last) = request.ends();
     match request.op {
         Op::Round(Way::Up, 64) => Answer::Number(util::align_up(x, y)),
         Op::Round(Way::Down, 64) => Answer::Number(util::align_down(x, y)),

@@ -1,7 +1,7 @@
 //! What was seen: the calls of each kind, those without an answer of the original, and the departures.
 
-use crate::calls::{Op, Request};
-use crate::departures;
+use crate::calls::{Layout, Op, Request};
+use crate::departures::{LIST, OF_MAPS};
 use crate::rules::Verdict;
 use std::collections::BTreeMap;
 use std::fmt;
@@ -12,7 +12,7 @@ pub struct Tally {
     kinds: BTreeMap<u8, Kind>,
     missing: BTreeMap<(u8, &'static str), u64>,
     not_found: BTreeMap<u64, u64>,
-    departures: [u64; departures::LIST.len()],
+    departures: [u64; LIST.len()],
 }
 
 /// A kind of call: how many were made, and to how many both gave the same answer and the same map.
@@ -40,11 +40,14 @@ impl Tally {
 }
 
 impl Tally {
-    /// The kinds of call and of departure of which nothing was seen, by name.
-    pub fn absent(&self) -> Vec<String> {
-        let calls = Op::all().into_iter().filter(|op| !self.kinds.contains_key(&op.code())).map(Op::name);
-        let departures = departures::LIST.iter().zip(self.departures).filter(|(_, count)| *count == 0);
-        calls.chain(departures.map(|((name, _), _)| name.to_string())).collect()
+    /// The kinds of call and of departure of which nothing was seen, by name, among those of the third level or
+    /// among those of all else.
+    pub fn absent(&self, third: bool) -> Vec<String> {
+        let due = |op: &Op| matches!(op, Op::Slots(Layout::Third, _)) == third;
+        let calls = Op::all().into_iter().filter(due).filter(|op| !self.kinds.contains_key(&op.code()));
+        let departures = &LIST[..if third { OF_MAPS } else { LIST.len() }];
+        let departures = departures.iter().zip(self.departures).filter(|(_, count)| *count == 0);
+        calls.map(Op::name).chain(departures.map(|((name, _), _)| name.to_string())).collect()
     }
 }
 
@@ -64,7 +67,7 @@ impl fmt::Display for Tally {
             writeln!(to, "{count:12} are refusal {number}")?;
         }
         writeln!(to, "listed departures: {}", self.departures.iter().sum::<u64>())?;
-        for ((name, _), count) in departures::LIST.iter().zip(self.departures) {
+        for ((name, _), count) in LIST.iter().zip(self.departures).filter(|(_, count)| *count > 0) {
             writeln!(to, "{count:12} {name}")?;
         }
         Ok(())

@@ -1,4 +1,4 @@
-// What is asked of a map of either size: the map by its name, the call and its numbers. The answer follows on the same line.
+// What is asked of a map of any size: the map by its name, the call and its numbers. The answer follows on the same line.
 use crate::names;
 use crate::show;
 

@@ -2,8 +2,10 @@
 // those where a wrap or a shift by 64 would show.
 use crate::names;
 use crate::show;
+use crate::thirds;
 use crate::trees;
 use crate::words;
+use third::Third;
 use tree::Tree;
 use word::Word;
 
@@ -275,4 +277,159 @@ pub fn unsound_trees() {
     let hidden = Tree::new_full().with_summary(32767);
     trees::get(names::ALL_SLOTS_UNDER_SUMMARY_32767, hidden, 0);
     trees::counts(names::ALL_SLOTS_UNDER_SUMMARY_32767, hidden);
+}
+
+// ---- the third level
+
+// The map with these slots, made of its words.
+fn third_with(start: usize, n: usize) -> Third {
+    Third::holding(Third::new_empty().set(start, n, true).map.words())
+}
+
+pub fn third_takes() {
+    let empty = Third::new_empty();
+    thirds::take(names::EMPTY_THIRD, empty, 16384, 13);
+    thirds::take(names::EMPTY_THIRD, empty, 2000, 0);
+    thirds::take(names::EMPTY_THIRD, empty, 16385, 13);
+    thirds::take(names::EMPTY_THIRD, empty, 16385, 14);
+    thirds::take(names::EMPTY_THIRD, empty, 0, 14);
+    thirds::take(names::EMPTY_THIRD, empty, 1, 14);
+    thirds::take(names::EMPTY_THIRD, empty, 18446744073709551615, 0);
+    thirds::take(names::EMPTY_THIRD, empty, 1, 18446744073709551615);
+    thirds::take(names::FULL_THIRD, Third::new_full(), 1, 0);
+}
+
+pub fn third_takes_around() {
+    let first = third_with(0, 1);
+    thirds::take(names::THIRD_WITH_SLOT_0, first, 1, 13);
+    thirds::take(names::THIRD_WITH_SLOT_0, first, 1024, 0);
+    thirds::take(names::THIRD_WITH_SLOT_0, first, 1024, 10);
+    thirds::take(names::THIRD_WITH_SLOT_0, first, 8192, 13);
+    thirds::take(names::THIRD_WITH_SLOT_0, first, 8193, 13);
+    thirds::take(names::THIRD_WITH_SLOT_0, first, 16383, 0);
+    thirds::take(names::THIRD_WITH_SLOT_0, first, 16384, 13);
+}
+
+pub fn third_takes_across() {
+    let across = third_with(1000, 100);
+    let most = third_with(0, 16383);
+    thirds::take(names::THIRD_WITH_SLOTS_1000_TO_1099, across, 1000, 0);
+    thirds::take(names::THIRD_WITH_SLOTS_1000_TO_1099, across, 1001, 0);
+    thirds::take(names::THIRD_WITH_SLOTS_1000_TO_1099, across, 1001, 10);
+    thirds::take(names::THIRD_WITH_SLOTS_1000_TO_1099, across, 14261, 0);
+    thirds::take(names::THIRD_WITH_SLOTS_1000_TO_1099, across, 15285, 0);
+    thirds::take(names::THIRD_WITH_SLOTS_0_TO_16382, most, 1, 0);
+    thirds::take(names::THIRD_WITH_SLOTS_0_TO_16382, most, 1, 1);
+}
+
+pub fn third_claims() {
+    let empty = Third::new_empty();
+    let across = third_with(1000, 100);
+    thirds::claim(names::EMPTY_THIRD, empty, 0, 16384);
+    thirds::claim(names::EMPTY_THIRD, empty, 1023, 2);
+    thirds::claim(names::EMPTY_THIRD, empty, 15359, 2);
+    thirds::claim(names::EMPTY_THIRD, empty, 16383, 1);
+    thirds::claim(names::EMPTY_THIRD, empty, 16383, 2);
+    thirds::claim(names::EMPTY_THIRD, empty, 16384, 0);
+    thirds::claim(names::EMPTY_THIRD, empty, 16384, 1);
+    thirds::claim(names::EMPTY_THIRD, empty, 18446744073709551615, 2);
+    thirds::claim(names::THIRD_WITH_SLOTS_1000_TO_1099, across, 0, 1000);
+    thirds::claim(names::THIRD_WITH_SLOTS_1000_TO_1099, across, 0, 1001);
+    thirds::claim(names::THIRD_WITH_SLOTS_1000_TO_1099, across, 1100, 15284);
+}
+
+pub fn third_frees() {
+    let full = Third::new_full();
+    let across = third_with(1000, 100);
+    thirds::free(names::FULL_THIRD, full, 0, 16384);
+    thirds::free(names::FULL_THIRD, full, 1023, 2);
+    thirds::free(names::FULL_THIRD, full, 15359, 2);
+    thirds::free(names::FULL_THIRD, full, 1024, 1024);
+    thirds::free(names::FULL_THIRD, full, 0, 0);
+    thirds::free(names::FULL_THIRD, full, 1, 18446744073709551615);
+    thirds::free(names::EMPTY_THIRD, Third::new_empty(), 0, 1);
+    thirds::free(names::THIRD_WITH_SLOTS_1000_TO_1099, across, 1000, 100);
+    thirds::free(names::THIRD_WITH_SLOTS_1000_TO_1099, across, 1000, 101);
+    thirds::free(names::THIRD_WITH_SLOTS_1000_TO_1099, across, 1000, 24);
+    thirds::free(names::THIRD_WITH_SLOTS_1000_TO_1099, across, 1024, 76);
+}
+
+pub fn third_sets() {
+    let full = Third::new_full();
+    let across = third_with(1000, 100);
+    thirds::set(names::EMPTY_THIRD, Third::new_empty(), 15359, 2, true);
+    thirds::set(
+        names::THIRD_WITH_SLOTS_1000_TO_1099,
+        across,
+        500,
+        3000,
+        true,
+    );
+    thirds::set(
+        names::THIRD_WITH_SLOTS_1000_TO_1099,
+        across,
+        500,
+        3000,
+        false,
+    );
+    thirds::set(names::FULL_THIRD, full, 1023, 14338, false);
+    thirds::set(names::FULL_THIRD, full, 16000, 384, false);
+    thirds::set(names::FULL_THIRD, full, 16000, 385, false);
+    thirds::set(names::FULL_THIRD, full, 16385, 0, false);
+}
+
+pub fn third_questions() {
+    let empty = Third::new_empty();
+    let full = Third::new_full();
+    let across = third_with(1000, 100);
+    thirds::next_free(names::EMPTY_THIRD, empty, 16383);
+    thirds::next_free(names::EMPTY_THIRD, empty, 16384);
+    thirds::next_free(names::FULL_THIRD, full, 0);
+    thirds::next_free(names::FULL_THIRD, full, 18446744073709551615);
+    thirds::next_free(names::THIRD_WITH_SLOTS_0_TO_16382, third_with(0, 16383), 0);
+    thirds::next_free(names::THIRD_WITH_SLOTS_1000_TO_1099, across, 1000);
+    thirds::get(names::FULL_THIRD, full, 16383);
+    thirds::get(names::FULL_THIRD, full, 16384);
+    thirds::get(names::EMPTY_THIRD, empty, 0);
+    thirds::get(names::THIRD_WITH_SLOTS_1000_TO_1099, across, 1024);
+    thirds::get(names::THIRD_WITH_SLOTS_1000_TO_1099, across, 1100);
+    thirds::counts(names::EMPTY_THIRD, empty);
+    thirds::counts(names::FULL_THIRD, full);
+    thirds::counts(names::THIRD_WITH_SLOTS_1000_TO_1099, across);
+}
+
+// Every call but capacity refuses a map of which a summary is wrong, before all else.
+fn unsound_third(name: u8, bad: Third) {
+    thirds::take(name, bad, 0, 14);
+    thirds::take(name, bad, 16385, 14);
+    thirds::claim(name, bad, 18446744073709551615, 2);
+    thirds::free(name, bad, 0, 0);
+    thirds::set(name, bad, 0, 1, true);
+    thirds::next_free(name, bad, 16384);
+    thirds::get(name, bad, 16384);
+    thirds::counts(name, bad);
+}
+
+// That of one tree alone; the one over them alone, with a bit too many and with one too few; and both.
+pub fn unsound_thirds() {
+    let full = Third::new_full();
+    let mut odd = [u16::MAX; 16];
+    odd[15] = 32767;
+    unsound_third(
+        names::FULL_THIRD_TREE_15_UNDER_32767,
+        full.with_summaries(odd, u16::MAX),
+    );
+    let none = [0; 16];
+    unsound_third(
+        names::EMPTY_THIRD_UNDER_SUMMARY_1,
+        Third::new_empty().with_summaries(none, 1),
+    );
+    unsound_third(
+        names::FULL_THIRD_UNDER_SUMMARY_32767,
+        full.with_summaries(full.summaries(), 32767),
+    );
+    unsound_third(
+        names::THIRD_WITH_SLOT_0_UNDER_NO_SUMMARY,
+        third_with(0, 1).with_summaries(none, 0),
+    );
 }

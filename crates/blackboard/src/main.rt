@@ -4,7 +4,9 @@ mod asked;
 mod edges;
 mod lesson;
 mod names;
+mod runs;
 mod show;
+mod thirds;
 mod trees;
 mod words;
 
@@ -31,6 +33,14 @@ fn main() {
     edges::tree_sets();
     edges::tree_questions();
     edges::unsound_trees();
+    edges::third_takes();
+    edges::third_takes_around();
+    edges::third_takes_across();
+    edges::third_claims();
+    edges::third_frees();
+    edges::third_sets();
+    edges::third_questions();
+    edges::unsound_thirds();
     lesson::second_free();
     lesson::free_of_none();
     lesson::moved_take();

@@ -1,5 +1,6 @@
 // What a line begins with: the map that a call is made on, or the story of the lesson that it belongs to. Each
-// has a number, and a call hands on the number: words that are lent to a call are slow to prove.
+// has a number, and a call hands on the number: words that are lent to a call are slow to prove. So all of them are
+// lent at once, a line each.
 use crate::show;
 
 pub const EMPTY_WORD: u8 = 0;
@@ -30,47 +31,63 @@ pub const NO_SLOT_UNDER_SUMMARY_1: u8 = 12;
 
 pub const ALL_SLOTS_UNDER_SUMMARY_32767: u8 = 13;
 
-pub const A_SECOND_FREE: u8 = 14;
+pub const EMPTY_THIRD: u8 = 14;
 
-pub const A_FREE_OF_NO_ENTRIES: u8 = 15;
+pub const FULL_THIRD: u8 = 15;
 
-pub const FREE_THEN_TAKE: u8 = 16;
+pub const THIRD_WITH_SLOT_0: u8 = 16;
 
-pub const TAKE_THEN_FREE: u8 = 17;
+pub const THIRD_WITH_SLOTS_1000_TO_1099: u8 = 17;
 
-// Prints the words of a number; one that has none prints nothing.
+pub const THIRD_WITH_SLOTS_0_TO_16382: u8 = 18;
+
+pub const FULL_THIRD_TREE_15_UNDER_32767: u8 = 19;
+
+pub const EMPTY_THIRD_UNDER_SUMMARY_1: u8 = 20;
+
+pub const FULL_THIRD_UNDER_SUMMARY_32767: u8 = 21;
+
+pub const THIRD_WITH_SLOT_0_UNDER_NO_SUMMARY: u8 = 22;
+
+pub const A_SECOND_FREE: u8 = 23;
+
+pub const A_FREE_OF_NO_ENTRIES: u8 = 24;
+
+pub const FREE_THEN_TAKE: u8 = 25;
+
+pub const TAKE_THEN_FREE: u8 = 26;
+
+// Prints the words of a number, which are that line of these; one that has none prints nothing.
 pub fn put(k: u8) {
-    match k {
-        EMPTY_WORD => show::text(b"empty word"),
-        FULL_WORD => show::text(b"full word"),
-        WORD_WITH_SLOT_0 => show::text(b"word with slot 0"),
-        WORD_WITH_SLOT_2 => show::text(b"word with slot 2"),
-        WORD_WITH_SLOT_10 => show::text(b"word with slot 10"),
-        WORD_WITH_SLOTS_0_TO_62 => show::text(b"word with slots 0 to 62"),
-        _ => put_tree(k),
-    }
-}
-
-fn put_tree(k: u8) {
-    match k {
-        EMPTY_TREE => show::text(b"empty tree"),
-        FULL_TREE => show::text(b"full tree"),
-        TREE_WITH_SLOT_0 => show::text(b"tree with slot 0"),
-        TREE_WITH_SLOT_70 => show::text(b"tree with slot 70"),
-        TREE_WITH_SLOTS_0_TO_1022 => show::text(b"tree with slots 0 to 1022"),
-        TREE_WITH_SLOTS_60_TO_67 => show::text(b"tree with slots 60 to 67"),
-        _ => put_other(k),
-    }
-}
-
-fn put_other(k: u8) {
-    match k {
-        NO_SLOT_UNDER_SUMMARY_1 => show::text(b"no slot under summary 1"),
-        ALL_SLOTS_UNDER_SUMMARY_32767 => show::text(b"all slots under summary 32767"),
-        A_SECOND_FREE => show::text(b"a second free"),
-        A_FREE_OF_NO_ENTRIES => show::text(b"a free of no entries"),
-        FREE_THEN_TAKE => show::text(b"free, then take"),
-        TAKE_THEN_FREE => show::text(b"take, then free"),
-        _ => show::text(b""),
-    }
+    show::line(
+        b"empty word
+full word
+word with slot 0
+word with slot 2
+word with slot 10
+word with slots 0 to 62
+empty tree
+full tree
+tree with slot 0
+tree with slot 70
+tree with slots 0 to 1022
+tree with slots 60 to 67
+no slot under summary 1
+all slots under summary 32767
+empty third level
+full third level
+third level with slot 0
+third level with slots 1000 to 1099
+third level with slots 0 to 16382
+full third level, tree 15 under 32767
+empty third level under summary 1
+full third level under summary 32767
+third level with slot 0, under no summary
+a second free
+a free of no entries
+free, then take
+take, then free
+",
+        k,
+    );
 }

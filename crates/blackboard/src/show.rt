@@ -16,6 +16,23 @@ pub fn number(n: u64) {
     io::print_decimal(STDOUT_FILENO, n);
 }
 
+// Line k, the first being line 0, without its end. Past the last line there is nothing.
+pub fn line(lines: &[u8], k: u8) {
+    let mut before = k;
+    let mut i = 0;
+    while i < lines.len() {
+        if lines[i] == b'\n' {
+            if before == 0 {
+                return;
+            }
+            before -= 1;
+        } else if before == 0 {
+            text(&lines[i..i + 1]);
+        }
+        i += 1;
+    }
+}
+
 pub fn value(n: u64) {
     text(b": ");
     number(n);

@@ -2,56 +2,17 @@
 // with the summary. A refused tree is shown too, since its words and its summary can always be read.
 use crate::asked;
 use crate::names;
+use crate::runs;
 use crate::show;
 use tree::Changed;
 use tree::Tree;
 
-// One slot further: where a run of used slots begins or ends, that is printed. Answers whether the
-// slot is used; `last` is the slot before it, and `inside` whether that one is.
-fn run_edge(slot: usize, last: usize, inside: bool, used: bool) -> bool {
-    if used {
-        if !inside {
-            show::text(b" ");
-            show::number(slot as u64);
-        }
-        return true;
-    }
-    if inside {
-        show::text(b"..");
-        show::number(last as u64);
-    }
-    false
-}
-
-// The runs of used slots, first and last slot of each; none is said as such.
-fn runs(words: [u64; 16]) {
-    let mut slot = 0;
-    let mut last = 0;
-    let mut inside = false;
-    while slot < 1025 {
-        let used = rows::get(&words, slot);
-        inside = run_edge(slot, last, inside, used);
-        last = slot;
-        slot += 1;
-    }
-}
-
-fn drawn(map: Tree) {
-    let words = map.words();
-    show::text(b", leaves");
-    if rows::count(&words) == 0 {
-        show::text(b" none");
-    }
-    runs(words);
-    show::text(b" under summary ");
-    show::number(map.summary() as u64);
-    show::text(b"\n");
-}
-
 fn left(changed: Changed) {
     let answer = changed.answer;
-    show::answer(answer);
-    drawn(changed.map);
+    let map = changed.map;
+    let words = map.words();
+    runs::left(answer, &words, 1024, map.summary());
+    show::text(b"\n");
 }
 
 pub fn take(name: u8, map: Tree, n: usize, a: usize) {

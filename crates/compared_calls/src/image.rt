@@ -1,4 +1,5 @@
-// Requests and answers: 152 bytes, numbers low byte first.
+// Requests and answers: 152 bytes, numbers low byte first. After those of a call on a third level come
+// its 256 words, 2,048 bytes.
 //
 //   byte 0      the call; of an answer: 0 refused, 1 done, 2 a number, 3 no, 4 yes
 //   byte 1      the value for set
@@ -6,9 +7,11 @@
 //   from 8      a number: the entries of a take, else the start, the slot or the value; of an answer
 //               its number, or the refusal's
 //   from 16     a second number: the exponent, the entries, the alignment
-//   from 24     the sixteen words; a word map is the first of them
+//   from 24     the sixteen words; a word map is the first of them; of a third level the summaries of
+//               its trees stand in their place
 use crate::said::Said;
 ghost use Prim.Native.Nat.{_+_, _≤_, _<_};
+ghost use lib.ListN.{length};
 
 const WORDS: usize = 24;
 
@@ -52,6 +55,26 @@ pub(crate) fn summary(request: &[u8; 152]) -> u16 {
     low | high << 8
 }
 
+pub(crate) fn summaries(request: &[u8; 152]) -> [u16; 16] {
+    let mut summaries = [0u16; 16];
+    let mut i = 0;
+    while i < 16 {
+        summaries[i] = low_half(word(request, i));
+        i += 1;
+    }
+    summaries
+}
+
+pub(crate) fn many_words(bytes: &[u8; 2048]) -> [u64; 256] {
+    let mut words = [0u64; 256];
+    let mut i = 0;
+    while i < 256 {
+        words[i] = number_at(bytes, 8 * i);
+        i += 1;
+    }
+    words
+}
+
 pub(crate) fn put_said(answer: &mut [u8; 152], said: Said) {
     answer[0] = said.kind;
     put_number(answer, 8, said.number);
@@ -63,9 +86,12 @@ pub(crate) fn put_word(answer: &mut [u8; 152], i: usize, word: u64)
     put_number(answer, WORDS + 8 * i, word);
 }
 
-pub(crate) fn put_map(answer: &mut [u8; 152], words: &[u64; 16], summary: u16) {
-    answer[2] = low_byte(summary as u64);
-    answer[3] = low_byte(summary as u64 >> 8);
+pub(crate) fn put_summary(answer: &mut [u8; 152], summary: u16) {
+    answer[2] = low_byte(wide_summary(summary));
+    answer[3] = low_byte(wide_summary(summary) >> 8);
+}
+
+pub(crate) fn put_words(answer: &mut [u8; 152], words: &[u64; 16]) {
     let mut i = 0;
     while i < 16 {
         put_word(answer, i, words[i]);
@@ -73,8 +99,26 @@ pub(crate) fn put_map(answer: &mut [u8; 152], words: &[u64; 16], summary: u16) {
     }
 }
 
-fn number_at(bytes: &[u8; 152], at: usize) -> u64
-    requires { ⌜ at + 8 ≤ 152 ⌝ }
+pub(crate) fn put_summaries(answer: &mut [u8; 152], summaries: &[u16; 16]) {
+    let mut i = 0;
+    while i < 16 {
+        put_word(answer, i, wide_summary(summaries[i]));
+        i += 1;
+    }
+}
+
+pub(crate) fn bytes_of(words: &[u64; 256]) -> [u8; 2048] {
+    let mut bytes = [0u8; 2048];
+    let mut i = 0;
+    while i < 256 {
+        put_number_behind(&mut bytes, 8 * i, words[i]);
+        i += 1;
+    }
+    bytes
+}
+
+fn number_at(bytes: &[u8], at: usize) -> u64
+    requires { ⌜ at + 8 ≤ length (now bytes) ⌝ }
 {
     let mut n = 0;
     let mut i = 8;
@@ -88,11 +132,9 @@ fn number_at(bytes: &[u8; 152], at: usize) -> u64
 fn put_number(bytes: &mut [u8; 152], at: usize, n: u64)
     requires { ⌜ at + 8 ≤ 152 ⌝ }
 {
-    let mut rest = n;
     let mut i = 0;
     while i < 8 {
-        bytes[at + i] = low_byte(rest);
-        rest = rest >> 8;
+        bytes[at + i] = byte_of(n, i);
         i += 1;
     }
 }
@@ -105,6 +147,32 @@ fn wide(byte: u8) -> u64 {
     byte as u64
 }
 
+fn wide_summary(summary: u16) -> u64 {
+    summary as u64
+}
+
+// The same in the bytes behind the 152.
+fn put_number_behind(bytes: &mut [u8; 2048], at: usize, n: u64)
+    requires { ⌜ at + 8 ≤ 2048 ⌝ }
+{
+    let mut i = 0;
+    while i < 8 {
+        bytes[at + i] = byte_of(n, i);
+        i += 1;
+    }
+}
+
+// Byte i of a number, the low one first.
+fn byte_of(n: u64, i: usize) -> u8
+    requires { ⌜ i < 8 ⌝ }
+{
+    low_byte(n >> (8 * i))
+}
+
 fn low_byte(n: u64) -> u8 {
     (n % 256) as u8
+}
+
+fn low_half(n: u64) -> u16 {
+    (n % 65536) as u16
 }

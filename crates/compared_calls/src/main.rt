@@ -4,6 +4,7 @@
 mod image;
 mod numbers;
 mod said;
+mod thirds;
 mod trees;
 mod words;
 
@@ -19,11 +20,35 @@ fn main() {
         if io::read_full(STDIN_FILENO, &mut request) < 152 {
             return;
         }
-        let answer = answered(&request);
-        if !io::write_all(STDOUT_FILENO, &answer) {
+        if !served(&request) {
             return;
         }
     }
+}
+
+// Answers a request. Whether there is more to answer: not where the input or the output has ended.
+fn served(request: &[u8; 152]) -> bool {
+    let call = request[0];
+    if call > 64 {
+        return third_served(request);
+    }
+    let answer = answered(request);
+    io::write_all(STDOUT_FILENO, &answer)
+}
+
+// The same of a call on a third level, whose words follow.
+fn third_served(request: &[u8; 152]) -> bool {
+    let mut words = [0u8; 2048];
+    if io::read_full(STDIN_FILENO, &mut words) < 2048 {
+        return false;
+    }
+    let whole = thirds::answered(request, &words);
+    let answer = whole.answer;
+    if !io::write_all(STDOUT_FILENO, &answer) {
+        return false;
+    }
+    let left = whole.words;
+    io::write_all(STDOUT_FILENO, &left)
 }
 
 // The map is handed back as it came where the call does not change it.

@@ -16,7 +16,8 @@ pub(crate) fn change(request: &[u8; 152], answer: &mut [u8; 152]) {
     image::put_said(answer, said::of_answer(answered));
     let left = changed.map;
     let words = left.words();
-    image::put_map(answer, &words, left.summary());
+    image::put_words(answer, &words);
+    image::put_summary(answer, left.summary());
 }
 
 fn changed(request: &[u8; 152], map: Tree) -> Changed {

@@ -3,11 +3,12 @@ use mathlib.Core.Path.{_≡_, sym, _∙_}
 use Prim.Native.Nat.{ℕ, _≤_, _^_}
 use native.Mathlib.Omega.{arith}
 use Rattle.judges.specs.declared.Size.{Size}
-use Rattle.judges.specs.declared.Size.the-variants.{Word, Tree}
+use Rattle.judges.specs.declared.Size.the-variants.{Word, Tree, Third}
 
 abbrev pub exponentOf : Size → ℕ
 exponentOf Word = 6
 exponentOf Tree = 10
+exponentOf Third = 14
 
 abbrev pub ExponentSays : Size → ℕ → Type 0
 ExponentSays size r = r ≡ exponentOf size
@@ -19,10 +20,12 @@ CapacitySays size r = r ≡ 2 ^ exponentOf size
 pub exponent-most : (size : Size) → exponentOf size ≤ 14
 exponent-most Word = omega arith
 exponent-most Tree = omega arith
+exponent-most Third = omega arith
 
 pub capacity-most : (size : Size) → 2 ^ exponentOf size ≤ 16384
 capacity-most Word = omega arith
 capacity-most Tree = omega arith
+capacity-most Third = omega arith
 
 pub exponent-one-answer : (size : Size) (r q : ℕ) → ExponentSays size r → ExponentSays size q → r ≡ q
 exponent-one-answer size r q p o = p ∙ sym o

@@ -14,10 +14,11 @@ ghost use Rattle.slots.specs.Tries.{nextTry};
 ghost use mathlib.Core.Path.{_≡_};
 ghost use Prim.Native.Nat.{_≤_, _<_, _^_};
 
-// How large a map is: 2^6 slots or 2^10.
+// How large a map is: 2^6 slots, 2^10 or 2^14.
 pub enum Size {
     Word,
     Tree,
+    Third,
 }
 
 // The exponent of the capacity.
@@ -27,6 +28,7 @@ pub fn exponent(size: Size) -> usize
     match size {
         Size::Word => 6,
         Size::Tree => 10,
+        Size::Third => 14,
     }
 }
 
@@ -37,6 +39,7 @@ pub fn capacity(size: Size) -> usize
     match size {
         Size::Word => 64,
         Size::Tree => 1024,
+        Size::Third => 16384,
     }
 }
 

@@ -1,54 +1,62 @@
--- A turn of a measured loop: the call is made, and what is left to do from the map that it leaves ends where all of it does. Assumes nothing.
+-- A turn of a measured loop, on any map: the call is made, and what is left to do from the map that it leaves ends where all of it does. Assumes
+-- nothing.
 use mathlib.Core.Path.{_≡_, sym, ap, subst, _∙_}
 use mathlib.Core.List.{List, [], _∷_}
-use Prim.Native.Nat.{ℕ, zero, suc, _+_, _-_, _≤_, _<_}
+use Prim.Native.Nat.{ℕ, zero, suc, _+_, _-_, _^_, _≤_, _<_}
 use native.Mathlib.Omega.{arith}
 use lib.ListN.{length, getD, drop, drop-of-length-le}
 use lib.Seq.{drop-cons}
 use Rattle.bits.specs.Range.{count}
 use Rattle.views.specs.Painting.{slotIn}
-use Rattle.slots.specs.Plain.{Asked, free}
+use Rattle.slots.specs.Kinds.{plain}
+use Rattle.slots.specs.Plain.{Asked, take, free, plainCalls}
 use Rattle.slots.specs.Series.{made, lastOf}
-use Rattle.tree.specs.declared.Tree.{Tree}
-use Rattle.tree.specs.declared.Changed.{Changed}
-use Rattle.tree.specs.Layout.{holding, treeView, treeCalls}
-use Rattle.tree.specs.Contracts.{HoldingSays, TakeSays, FreeSays}
-use Rattle.measured.specs.Series.{takesOf, freesOf, After, LeftInSays}
+use Rattle.slots.specs.View.{View}
+use Rattle.measured.specs.Series.{takesOf, freesOf, Left, After}
 
--- from a map, the rest of a series ends where the whole does
-pub record Ends (words : List ℕ) (calls : List Asked) (m : Tree) (rest : List Asked) : Type 0 where
-  pub alike : lastOf treeView treeCalls (holding words) calls ≡ lastOf treeView treeCalls m rest
+module _ (L : View plain) where
+  -- the map that a call leaves, and the one that a series does
+  abbrev pub next : L .Map → Asked → L .Map
+  next m call = made L (plainCalls (L .k)) m call .1
 
-module _ {words : List ℕ} {calls : List Asked} where
-  pub begins : (m : Tree) → HoldingSays words m → Ends words calls m calls
-  begins m is = record { alike = ap (λ (t : Tree). lastOf treeView treeCalls t calls) (sym is) }
+  abbrev pub last : L .Map → List Asked → L .Map
+  last m calls = lastOf L (plainCalls (L .k)) m calls
 
-  turned : {m : Tree} {call : Asked} {rest : List Asked} (next : Tree) → Ends words calls m (call ∷ rest) → next ≡ made treeView treeCalls m call .1 → Ends words calls next rest
-  turned {m} {call} {rest} next ends is = record { alike = ends .alike ∙ ap (λ (t : Tree). lastOf treeView treeCalls t rest) (sym is) }
+  -- from a map, the rest of a series ends where the whole does
+  pub record Ends (first : L .Map) (calls : List Asked) (m : L .Map) (rest : List Asked) : Type 0 where
+    pub alike : last first calls ≡ last m rest
 
-  pub take-turn : {m : Tree} (n a left : ℕ) (out : Changed) → 0 < left → Ends words calls m (takesOf n a left) → TakeSays m n a out
-      → Ends words calls (out .map) (takesOf n a (left - 1))
-  take-turn n a zero out more ends outcome = absurd (omega (arith, more))
-  take-turn n a (suc left) out more ends outcome =
-      let less : suc left - 1 ≡ left = omega arith in rw less (turned (out .map) ends (ap (λ o. o .1) outcome))
+module _ {L : View plain} {first : L .Map} {calls : List Asked} where
+  pub begins : (m : L .Map) → m ≡ first → Ends L first calls m calls
+  begins m is = record { alike = ap (λ (t : L .Map). last L t calls) (sym is) }
 
-  pub free-turn : {m : Tree} (starts : List ℕ) (n i : ℕ) (out : Changed) → i < length starts → Ends words calls m (freesOf (drop i starts) n)
-      → FreeSays m (getD starts i 0) n out → Ends words calls (out .map) (freesOf (drop (i + 1) starts) n)
-  free-turn {m} starts n i out more ends outcome =
-      let next : i + 1 ≡ suc i = omega arith in
-      let from : Ends words calls m (free (getD starts i 0) n ∷ freesOf (drop (suc i) starts) n) =
-      subst (λ (l : List ℕ). Ends words calls m (freesOf l n)) (drop-cons starts i 0 more) ends in
-      rw next (turned (out .map) from (ap (λ o. o .1) outcome))
+  turned : {m : L .Map} {call : Asked} {rest : List Asked} (left : L .Map) → Ends L first calls m (call ∷ rest) → left ≡ next L m call → Ends L first calls left rest
+  turned {m} {call} {rest} left ends is = record { alike = ends .alike ∙ ap (λ (t : L .Map). last L t rest) (sym is) }
+
+  pub take-turn : {m : L .Map} (n a times : ℕ) (left : L .Map) → 0 < times → Ends L first calls m (takesOf n a times) → left ≡ next L m (take n a)
+      → Ends L first calls left (takesOf n a (times - 1))
+  take-turn n a zero left more ends is = absurd (omega (arith, more))
+  take-turn n a (suc times) left more ends is =
+      let less : suc times - 1 ≡ times = omega arith in rw less (turned left ends is)
+
+  pub free-turn : {m : L .Map} (starts : List ℕ) (n i : ℕ) (left : L .Map) → i < length starts → Ends L first calls m (freesOf (drop i starts) n)
+      → left ≡ next L m (free (getD starts i 0) n) → Ends L first calls left (freesOf (drop (i + 1) starts) n)
+  free-turn {m} starts n i left more ends is =
+      let more-by-one : i + 1 ≡ suc i = omega arith in
+      let from : Ends L first calls m (free (getD starts i 0) n ∷ freesOf (drop (suc i) starts) n) =
+      subst (λ (l : List ℕ). Ends L first calls m (freesOf l n)) (drop-cons starts i 0 more) ends in
+      rw more-by-one (turned left from is)
 
   -- where none is left, the map is the last one
-  pub none-to-take : {m : Tree} (n a left : ℕ) → left ≤ 0 → Ends words calls m (takesOf n a left) → Ends words calls m []
+  pub none-to-take : {m : L .Map} (n a times : ℕ) → times ≤ 0 → Ends L first calls m (takesOf n a times) → Ends L first calls m []
   none-to-take n a zero over ends = ends
-  none-to-take n a (suc left) over ends = absurd (omega (arith, over))
+  none-to-take n a (suc times) over ends = absurd (omega (arith, over))
 
-  pub none-to-free : {m : Tree} (starts : List ℕ) (n i : ℕ) → length starts ≤ i → Ends words calls m (freesOf (drop i starts) n) → Ends words calls m []
+  pub none-to-free : {m : L .Map} (starts : List ℕ) (n i : ℕ) → length starts ≤ i → Ends L first calls m (freesOf (drop i starts) n) → Ends L first calls m []
   none-to-free {m} starts n i over ends = record {
-    alike = ends .alike ∙ ap (λ (l : List ℕ). lastOf treeView treeCalls m (freesOf l n)) (drop-of-length-le starts {i = i} over);
+    alike = ends .alike ∙ ap (λ (l : List ℕ). last L m (freesOf l n)) (drop-of-length-le starts {i = i} over);
   }
 
-  pub finished : {m : Tree} (after : List ℕ) (r : ℕ) → Ends words calls m [] → LeftInSays m r after → After words calls r after
-  finished after r ends left = left ∙ ap (λ (t : Tree). (count (slotIn (t .words)) 0 1024, t .words)) (sym (ends .alike))
+  pub finished : (wordsOf : L .Map → List ℕ) {m : L .Map} (after : List ℕ) (r : ℕ) → Ends L first calls m [] → Left L wordsOf m r after
+      → After L wordsOf first calls r after
+  finished wordsOf after r ends left = left ∙ ap (λ (t : L .Map). (count (slotIn (wordsOf t)) 0 (2 ^ L .k), wordsOf t)) (sym (ends .alike))

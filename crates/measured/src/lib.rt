@@ -1,8 +1,9 @@
-// What the measurement calls from outside: takes and frees one after the other on a tree that is
-// lent as its sixteen words, by value and in place. Thin: a loop over the calls of `tree` and of
-// `in_place`.
+// What the measurement calls from outside: takes and frees one after the other on a map that is lent as
+// its words, a tree by value and in place, the third level by value. Thin: a loop over the calls of
+// `tree`, of `in_place` and of `third`.
+use third::Third;
 use tree::Tree;
-ghost use Rattle.measured.specs.Series.{TakesSays, FreesSays, LeftInSays};
+ghost use Rattle.measured.specs.Series.{TakesSays, FreesSays, LeftInSays, ThirdTakesSays, ThirdFreesSays, LeftInThirdSays};
 
 // So many takes of n slots at a multiple of 2^a; a take that is refused changes nothing. Answers how
 // many slots are used then. Never refused.
@@ -71,6 +72,42 @@ fn left_in(words: &mut [u64; 16], map: Tree) -> usize
     ensures { λ r. ⌜ LeftInSays map r (now (words .exit)) ⌝ }
 {
     let left = map.words();
+    *words = left;
+    rows::count(&left)
+}
+
+// ---- the same at the third level
+
+#[no_mangle]
+pub extern "C" fn third_takes(words: &mut [u64; 256], n: usize, a: usize, times: usize) -> usize
+    ensures { λ r. ⌜ ThirdTakesSays (now (words .entry)) n a times r (now (words .exit)) ⌝ }
+{
+    let mut third = Third::holding(*words);
+    let mut left = times;
+    while left > 0 {
+        third = third.take(n, a).map;
+        left -= 1;
+    }
+    left_in_third(words, third)
+}
+
+#[no_mangle]
+pub extern "C" fn third_frees(words: &mut [u64; 256], starts: &[u64], n: usize) -> usize
+    ensures { λ r. ⌜ ThirdFreesSays (now (words .entry)) (now (starts .entry)) n r (now (words .exit)) ⌝ }
+{
+    let mut third = Third::holding(*words);
+    let mut i = 0;
+    while i < starts.len() {
+        third = third.free(starts[i] as usize, n).map;
+        i += 1;
+    }
+    left_in_third(words, third)
+}
+
+fn left_in_third(words: &mut [u64; 256], third: Third) -> usize
+    ensures { λ r. ⌜ LeftInThirdSays third r (now (words .exit)) ⌝ }
+{
+    let left = third.words();
     *words = left;
     rows::count(&left)
 }

@@ -30,6 +30,9 @@ firstPlaces f w i = number (λ p. ltb p i && f p) w
 pub no-places : (f : ℕ → Bool) (w : ℕ) → 0 ≡ firstPlaces f w 0
 no-places f w = number-is w 0 _ (pow-pos w) (λ p l. zero-digit p ∙ ap (λ (b : Bool). b && f p) (sym (le-ltb p 0 zero-le)))
 
+pub all-places : (f : ℕ → Bool) (w : ℕ) → firstPlaces f w w ≡ number f w
+all-places f w = number-agree (λ p. ltb p w && f p) f w (λ p l. rw (lt-ltb p w l))
+
 -- a word of a part is one of the words, and there are sixteen at most
 pub part-there : (words : List ℕ) (i : ℕ) → i < partWords words → (i < length words) × (i < 16)
 unfolding partWords

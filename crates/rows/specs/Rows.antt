@@ -6,7 +6,7 @@ use Prim.Native.Nat.{ℕ}
 use lib.Dec.{eqb}
 use Rattle.bits.specs.Range.{count}
 use Rattle.bits.specs.Digits.{digit, number}
-use Rattle.views.specs.Painting.{slotsIn, slotIn, paintedWords}
+use Rattle.views.specs.Painting.{slotsIn, slotIn, endIn, paintedWords}
 use Rattle.views.specs.Summary.{summaryOf, touchedSummary}
 use Rattle.slots.specs.Sets.{allFree, allUsed}
 use Rattle.slots.specs.Lowest.{freeFrom}
@@ -44,6 +44,9 @@ SummarySays part r = r ≡ summaryOf part
 abbrev pub TouchedSays : List ℕ → ℕ → ℕ → ℕ → ℕ → Type 0
 TouchedSays part summary start n r = r ≡ touchedSummary part summary start n
 
+abbrev pub EndOfSays : ℕ → ℕ → ℕ → ℕ → Type 0
+EndOfSays slots start n r = r ≡ endIn slots start n
+
 -- ---- any two answers that a contract allows coincide
 
 pub get-one-answer : (words : List ℕ) (slot : ℕ) (r q : Bool) → GetSays words slot r → GetSays words slot q → r ≡ q
@@ -70,3 +73,6 @@ summary-one-answer part r q p o = p ∙ sym o
 
 pub touched-one-answer : (part : List ℕ) (summary start n r q : ℕ) → TouchedSays part summary start n r → TouchedSays part summary start n q → r ≡ q
 touched-one-answer part summary start n r q p o = p ∙ sym o
+
+pub end-of-one-answer : (slots start n r q : ℕ) → EndOfSays slots start n r → EndOfSays slots start n q → r ≡ q
+end-of-one-answer slots start n r q p o = p ∙ sym o

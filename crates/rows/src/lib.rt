@@ -8,8 +8,8 @@ ghost use Prim.Native.Nat.{_≤_, _<_, _*_, _^_};
 ghost use lib.Dec.{eqb};
 ghost use Rattle.bits.specs.Range.{bit};
 ghost use Rattle.places.specs.Places.{RunMaskSays};
-ghost use Rattle.views.specs.Painting.{slotsIn, endIn, partMask};
-ghost use Rattle.rows.specs.Rows.{GetSays, CountSays, FirstFreeSays, AllFreeSays, AllUsedSays, PaintSays, SummarySays, TouchedSays, withBit};
+ghost use Rattle.views.specs.Painting.{slotsIn, partMask};
+ghost use Rattle.rows.specs.Rows.{GetSays, CountSays, FirstFreeSays, AllFreeSays, AllUsedSays, PaintSays, SummarySays, TouchedSays, EndOfSays, withBit};
 ghost use Rattle.views.specs.Summary.{partWords};
 
 // Where the masks of a run come from: claim and set read the table of low masks, take and free build
@@ -190,9 +190,9 @@ fn slots(words: &[u64]) -> usize
     words.len() * 64
 }
 
-// Where a run ends among so many slots.
-fn end_of(slots: usize, start: usize, n: usize) -> usize
-    ensures { λ r. ⌜ r ≡ endIn slots start n ⌝ }
+// Where the n slots from `start` on end, among so many.
+pub fn end_of(slots: usize, start: usize, n: usize) -> usize
+    ensures { λ r. ⌜ EndOfSays slots start n r ⌝ }
 {
     if slots <= start {
         return slots;

@@ -8,7 +8,7 @@ use mathlib.Core.List.{List, [], _∷_}
 use Prim.Native.Nat.{ℕ, zero, suc, _+_, _-_, _*_, _/_, _%_, _^_, _≤_, _<_, min, zero-le}
 use native.Mathlib.Nat.{le-refl, add-zero, zero-add, add-suc, suc-add, add-assoc, suc-mul, zero-mul, mul-add-div-right, mul-add-mod-self-right, div-eq-of-lt, mod-eq-of-lt, mod-lt, div-add-mod', mul-le-mul-right, div-lt-iff-lt-mul}
 use native.Mathlib.Omega.{arith}
-use lib.ListN.{length, set, length-set}
+use lib.ListN.{length, getD, set, length-set}
 use lib.Dec as Dec
 use lib.Dec.{ltb, eqb, eqb→eq}
 use lib.Bits.{and-le-l, or-lt}
@@ -41,6 +41,22 @@ module _ {Child : Type 0} (T : BitmapAllocator Child) (k : ℕ) (holds : Child �
   abbrev pub AllGood : List Child → Type 0
   AllGood [] = Unit {0}
   AllGood (x ∷ xs) = Good x × AllGood xs
+
+  -- by place, where d stands past the last
+  module _ (d : Child) where
+    pub all-good : (xs : List Child) → ((i : ℕ) → i < length xs → Good (getD xs i d)) → AllGood xs
+    all-good [] each = tt
+    all-good (x ∷ xs) each = (each 0 (omega arith), all-good xs (λ i l. each (suc i) (omega arith)))
+
+    pub good-at : (xs : List Child) → AllGood xs → (i : ℕ) → i < length xs → Good (getD xs i d)
+    good-at [] good i l = absurd (omega arith)
+    good-at (x ∷ xs) good zero l = good .0
+    good-at (x ∷ xs) good (suc i) l = good-at xs (good .1) i (omega arith)
+
+    pub slot-at : (xs : List Child) (i : ℕ) → i < length xs → slotAt xs i ≡ holds (getD xs i d)
+    slot-at [] i l = absurd (omega arith)
+    slot-at (x ∷ xs) zero l = refl
+    slot-at (x ∷ xs) (suc i) l = slot-at xs i (omega arith)
 
   child-there : (xs : List Child) → AllGood xs → (j : ℕ) → Whenever (xs at? j) (λ x. (j < length xs) × Good x × (slotAt xs j ≡ holds x))
   child-there [] good j = tt

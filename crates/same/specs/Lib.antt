@@ -7,8 +7,11 @@ pub mod Same
 pub mod Search
 pub mod Calls
 pub mod Seen
+pub mod AnyMap
 pub mod Trees
+pub mod Thirds
 pub mod WordMap
 pub mod TreeMap
+pub mod ThirdMap
 pub mod Helpers
 pub mod Departures

@@ -1,11 +1,11 @@
 -- An allocator that answers as a set of slots does, seen through one of our views: what its methods give, in terms of our map. Rests on `Acts`.
-use mathlib.Core.Path.{_≡_, sym, ap, _∙_}
+use mathlib.Core.Path.{_≡_, refl, sym, ap, fun-ext, _∙_}
 use mathlib.Core.Bool.{Bool, true, false, not}
 use mathlib.Core.Option.{Option, none, some}
-use Prim.Native.Nat.{ℕ, _+_, _^_, _<_}
+use Prim.Native.Nat.{ℕ, _+_, _^_, _≤_, _<_}
 use native.Mathlib.Omega.{arith}
 use Rattle.bits.specs.Range.{within, count-agree, every-agree}
-use Rattle.slots.specs.Sets.{Slots, painted, allFree}
+use Rattle.slots.specs.Sets.{Slots, painted, painted-other, allFree}
 use Rattle.slots.specs.Kinds.{plain}
 use Rattle.slots.specs.View.{View, same-state}
 use Rattle.source.specs.Machine.{ilog2}
@@ -30,9 +30,18 @@ module _ (k : ℕ) (X Y : Slots) (alike : (i : ℕ) → i < 2 ^ k → X i ≡ Y 
   unfolding painted
   painted-alike s n v i l = ap (λ (b : Bool). elim (within s n i) as (λ _. Bool) [ true ↦ v | false ↦ b ]) (alike i l)
 
-  free-alike : allFree X 0 (2 ^ k) ≡ allFree Y 0 (2 ^ k)
+  pub free-alike : allFree X 0 (2 ^ k) ≡ allFree Y 0 (2 ^ k)
   unfolding allFree
   free-alike = every-agree (λ i. not (X i)) (λ i. not (Y i)) 0 (2 ^ k) (λ i _ l. ap not (alike i (omega arith)))
+
+-- from the end on there is none
+pub found-past : (k : ℕ) (S : Slots) (s : ℕ) → 2 ^ k ≤ s → (found : Option ℕ) → Found k S s found → found ≡ none
+found-past k S s far (some i) there = absurd (omega (arith, there .from, there .inside))
+found-past k S s far none full = refl
+
+-- and no entries paint nothing
+pub painted-none : (S : Slots) (s : ℕ) (v : Bool) → painted S s 0 v ≡ S
+painted-none S s v = fun-ext (λ i. painted-other S s 0 v i (λ named. omega (arith, named)))
 
 -- a good value is a sound map of ours, and holds the same slots
 pub record Seen (L : View plain) {Self : Type 0} (holds : Self → Slots) (Good : Self → Type 0) (ours : Self → L .Map) : Type 0 where
@@ -49,6 +58,10 @@ module _ (L : View plain) {Self : Type 0} (B : BitmapAllocator Self) (holds : Se
       (L .made-sound _ tt) (L .made-map _) (λ i l.
       sym (seen .alike after (told .0) i l) ∙ told .1 i l ∙ painted-alike (L .k) (holds m) (L .stateOf (ours m)) (seen .alike m good) s n v i l
       ∙ sym (L .holds _ i l)))
+
+  pub set-nothing : (s : ℕ) (v : Bool) → Whenever (B .set-to m s 0 v) (λ after. ours after ≡ ours m)
+  set-nothing s v = so (B .set-to m s 0 v) _ _ (set-leaves s 0 v) (λ after left.
+      left ∙ ap (L .ofState) (painted-none (L .stateOf (ours m)) s v) ∙ L .same (ours m) (seen .is-sound m good) (seen .is-map m good))
 
   pub follows : L .k < 64 → ilog2 (B .CAPACITY) ≡ L .k → Follows L B ours m
   follows small log = record {

@@ -1,21 +1,21 @@
--- The commit's tree of sixteen words, as our tree: the same words under the same summary. Rests on `AnyTree`, and on the summary of `rows`.
+-- The commit's tree of sixteen words, as our tree: the same words under the same summary. Rests on `AnyTree`, and on the summary of `views`.
 use mathlib.Core.Path.{_≡_, refl, sym, ap, fun-ext, _∙_}
 use mathlib.Core.Bool.{not}
-use mathlib.Core.List.{List, [], _∷_, map}
+use mathlib.Core.List.{List, [], _∷_, map, map-map, map-id}
 use Prim.Native.Nat.{ℕ, zero, suc, _/_, _%_, _^_, _≤_, _<_}
 use native.Mathlib.Omega.{arith}
-use lib.ListN.{length, getD, length-map}
+use lib.ListN.{length, getD, length-map, List·getD-map}
 use Rattle.bits.specs.Digits.{digit, number-is, digit-number, zero-digit}
 use Rattle.slots.specs.Sets.{Slots, allFree}
 use Rattle.views.specs.Painting.{slots-all, slot-there}
 use Rattle.views.specs.Summary.{usedWord, summaryOf}
 use Rattle.tree.specs.declared.Tree.{Tree}
 use Rattle.tree.specs.Layout.{treeOf, slotOf, Sound, IsTree, treeView, sound-by-summary}
-use Rattle.source.specs.BitmapAllocator.{Bitmap64, Bitmap1024, AllocatorTree, Allocator64, Allocator1024}
+use Rattle.source.specs.BitmapAllocator.{Bitmap64, new-empty64, Bitmap1024, Allocator64, Allocator1024}
 use Rattle.same.specs.Whenever.{Whenever}
 use Rattle.same.specs.Acts.{Found, Acts}
 use Rattle.same.specs.Words as Words
-use Rattle.same.specs.Words.{word-acts}
+use Rattle.same.specs.Words.{word, word-acts}
 use Rattle.same.specs.AnyTree as AnyTree
 use Rattle.same.specs.Seen.{Seen}
 
@@ -24,6 +24,16 @@ wordsOf t = map (λ (x : Bitmap64). x .bits) (t .child)
 
 abbrev pub ours : Bitmap1024 → Tree
 ours t = treeOf (wordsOf t) (t .bits)
+
+-- and back
+abbrev pub theirs : Tree → Bitmap1024
+theirs t = record { bits = t .summary; child = map word (t .words) }
+
+pub ours-theirs : (t : Tree) → ours (theirs t) ≡ t
+ours-theirs t = ap (λ (words : List ℕ). treeOf words (t .summary)) (map-map (λ (x : Bitmap64). x .bits) word (t .words) ∙ map-id (t .words))
+
+pub theirs-ours : (t : Bitmap1024) → theirs (ours t) ≡ t
+theirs-ours t = λ i. record { bits = t .bits; child = (map-map word (λ (x : Bitmap64). x .bits) (t .child) ∙ map-id (t .child)) i }
 
 -- ---- the tree over words
 
@@ -48,15 +58,8 @@ GoodTree = AnyTree.GoodTree Allocator64 6 holdsWord IsWord word-acts few
 pub acts-1024 : Acts Allocator1024 10 holds GoodTree
 acts-1024 = AnyTree.tree-acts Allocator64 6 holdsWord IsWord word-acts few
 
--- a tree of trees answers as its set does, too
-pub acts-16384 : Acts (AllocatorTree Allocator1024) 14 (AnyTree.treeHolds Allocator1024 10 holds GoodTree acts-1024 (omega arith)) (AnyTree.GoodTree Allocator1024 10 holds GoodTree acts-1024 (omega arith))
-acts-16384 = AnyTree.tree-acts Allocator1024 10 holds GoodTree acts-1024 (omega arith)
-
 abbrev slotAt : List Bitmap64 → ℕ → Slots
 slotAt = AnyTree.slotAt Allocator64 6 holdsWord IsWord word-acts few
-
-abbrev AllWords : List Bitmap64 → Type 0
-AllWords = AnyTree.AllGood Allocator64 6 holdsWord IsWord word-acts few
 
 -- ---- its slots and its summary are ours
 
@@ -65,16 +68,11 @@ slots-of [] j = fun-ext (λ p. sym (zero-digit p))
 slots-of (x ∷ xs) zero = refl
 slots-of (x ∷ xs) (suc j) = slots-of xs j
 
-each-word : (xs : List Bitmap64) → ((i : ℕ) → i < length xs → getD (map (λ (x : Bitmap64). x .bits) xs) i 0 < 2 ^ 64) → AllWords xs
-each-word [] fit = tt
-each-word (x ∷ xs) fit = (fit 0 (omega arith), each-word xs (λ i l. fit (suc i) (omega arith)))
+-- word i of the tree
+word-at : (t : Bitmap1024) (i : ℕ) → getD (wordsOf t) i 0 ≡ getD (t .child) i new-empty64 .bits
+word-at t i = List·getD-map (λ (x : Bitmap64). x .bits) (t .child) i new-empty64
 
-word-fits : (xs : List Bitmap64) → AllWords xs → (i : ℕ) → i < length xs → getD (map (λ (x : Bitmap64). x .bits) xs) i 0 < 2 ^ 64
-word-fits [] good i l = absurd (omega arith)
-word-fits (x ∷ xs) good zero l = good .0
-word-fits (x ∷ xs) good (suc i) l = word-fits xs (good .1) i (omega arith)
-
-slots-alike : (t : Bitmap1024) → length (wordsOf t) ≡ 16 → (i : ℕ) → i < 1024 → holds t i ≡ slotOf (ours t) i
+pub slots-alike : (t : Bitmap1024) → length (wordsOf t) ≡ 16 → (i : ℕ) → i < 1024 → holds t i ≡ slotOf (ours t) i
 slots-alike t many i l =
     ap (λ (X : Slots). X (i % 64)) (slots-of (t .child) (i / 64))
     ∙ sym (slot-there (wordsOf t) i (rw (slots-all (wordsOf t) 16 many (omega arith)) l))
@@ -87,7 +85,10 @@ bit-is t j fits =
 is-held : (t : Bitmap1024) → IsTree (ours t) → Held t
 is-held t held =
     let long : length (t .child) ≡ 16 = sym (length-map (t .child) (λ (x : Bitmap64). x .bits)) ∙ held .is-map .so-many in
-    record { many = long; each = each-word (t .child) (λ i l. held .is-map .each-fits i (rw long at l)) }
+    record {
+      many = long;
+      each = AnyTree.all-good Allocator64 6 holdsWord IsWord word-acts few new-empty64 (t .child) (λ i l. rw (word-at t i) at (held .is-map .each-fits i (rw long at l)));
+    }
 
 -- of any tree, whatever its summary
 pub next-free-finds : (t : Bitmap1024) → IsTree (ours t) → (s : ℕ) → Whenever (Allocator1024 .next-free t s) (Found 10 (holds t) s)
@@ -109,7 +110,7 @@ module _ (t : Bitmap1024) (good : GoodTree t) where
   many = length-map (t .child) (λ (x : Bitmap64). x .bits) ∙ good .held .many
 
   fit : (i : ℕ) → i < 16 → getD (wordsOf t) i 0 < 2 ^ 64
-  fit i l = word-fits (t .child) (good .held .each) i (rw (good .held .many) l)
+  fit i l = rw (word-at t i) (AnyTree.good-at Allocator64 6 holdsWord IsWord word-acts few new-empty64 (t .child) (good .held .each) i (rw (good .held .many) l))
 
   is-tree : IsTree (ours t)
   is-tree = record { is-map = record { so-many = many; each-fits = fit }; is-field = good .fits }

@@ -1,14 +1,17 @@
 -- What a call on a map has to show at each way out, over any view: check 1 in front, and then a judged call carried out. Assumes nothing.
-use mathlib.Core.Path.{_≡_, refl, sym, _∙_}
+use mathlib.Core.Path.{_≡_, refl, sym, ap, _∙_}
 use mathlib.Core.Bool.{Bool, true, false, not}
+use Prim.Native.Nat.{ℕ}
 use borrow.Author.Tests.{not-true, not-false}
 use Rattle.answers.specs.Said.{value, refused, judged-checked}
 use Rattle.answers.specs.Refusals.{numberOf}
 use Rattle.answers.specs.Answers.{Reply, at, ok, answerSays, leftBy}
 use Rattle.answers.specs.declared.Answer.{Answer}
 use Rattle.answers.specs.declared.Answer.the-variants.{At, Done, Refused}
-use Rattle.slots.specs.Kinds.{Kind, State}
-use Rattle.slots.specs.Calls.{Call, says}
+use Rattle.slots.specs.Sets.{Slots, painted}
+use Rattle.slots.specs.Kinds.{Kind, State, plain}
+use Rattle.slots.specs.Calls.{Call, says, takeCall}
+use Rattle.slots.specs.Promises.{take-after}
 use Rattle.slots.specs.View.{View, answered, changed, found-unsound, found-sound, says-refused, says-accepted}
 
 -- ---- check 1, by the flag of a branch on `!flag`
@@ -37,3 +40,21 @@ module _ {K : Kind} (L : View K) (m : L .Map) (call : Call (State K) Reply) (aft
   carried-out (At o) told = accepting (At o) (at o) refl told
   carried-out Done told = accepting Done ok refl told
   carried-out (Refused why) told = sym (says-refused L m call (numberOf why) (sym told))
+
+-- ---- a call that paints a run
+
+module _ (L : View plain) (m : L .Map) where
+  -- the set that an accepted take leaves
+  pub take-paints : (n a start : ℕ) → value (at start) ≡ answered L m (takeCall (L .k) (L .stateOf m) n a)
+      → takeCall (L .k) (L .stateOf m) n a .after ≡ painted (L .stateOf m) start n true
+  take-paints n a start told =
+      let call = takeCall (L .k) (L .stateOf m) n a in
+      take-after (L .k) (L .stateOf m) n a start (sym (found-sound L m call (accepted-sound L m call (at start) (sym told))) ∙ sym told)
+
+  -- where the painted map is that of the painted set, as it is where the map is sound
+  pub carries : (call : Call Slots Reply) (s n : ℕ) (v : Bool) → call .after ≡ painted (L .stateOf m) s n v
+      → (after : L .Map) → (L .isSound m ≡ true → after ≡ L .ofState (painted (L .stateOf m) s n v))
+      → (judge : Answer) → answerSays judge ≡ answered L m call → (left : L .Map) → left ≡ leftBy judge m after → (answerSays judge, left) ≡ changed L m call
+  carries call s n v paints after right judge told left e =
+      ap (λ (map : L .Map). (answerSays judge, map)) e
+      ∙ carried-out L m call after (λ reply said. right (accepted-sound L m call reply said) ∙ ap (L .ofState) (sym paints)) judge told

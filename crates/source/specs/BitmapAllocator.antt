@@ -194,6 +194,18 @@ Bitmap1024 = BitmapTree Bitmap64
 abbrev pub Allocator1024 : BitmapAllocator Bitmap1024
 Allocator1024 = AllocatorTree Allocator64
 
+-- a tree of trees, to which the source gives no name
+abbrev pub Bitmap16384 : Type 0
+Bitmap16384 = BitmapTree Bitmap1024
+
+abbrev pub Allocator16384 : BitmapAllocator Bitmap16384
+Allocator16384 = AllocatorTree Allocator1024
+
+-- its derived `Default`: no other value of this type has a function that makes it
+-- 97
+abbrev pub default16384 : Bitmap16384
+default16384 = record { bits = 0; child = replicate 16 new-empty-tree }
+
 -- ---- what is the same for every allocator
 
 module _ {Self : Type 0} (B : BitmapAllocator Self) where

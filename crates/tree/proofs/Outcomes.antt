@@ -8,20 +8,18 @@ use types.Run.{OneOf}
 use denote.Enum.Declared.{tagOf}
 use Rattle.answers.proofs.Answer.{the-type}
 use Rattle.answers.proofs.Judging.{left-accepted}
-use Rattle.answers.specs.Said.{value}
-use Rattle.answers.specs.Answers.{Reply, at, answerSays, leftBy}
+use Rattle.answers.specs.Answers.{Reply, answerSays, leftBy}
 use Rattle.answers.specs.declared.Answer.{Answer}
 use Rattle.bits.specs.Range.{same-test}
 use Rattle.slots.specs.Sets.{Slots, allFree, painted}
-use Rattle.slots.specs.Calls.{Call, takeCall}
-use Rattle.slots.specs.Promises.{take-after}
-use Rattle.slots.specs.View.{answered, changed, found-sound}
-use Rattle.slots.proofs.Outcomes.{accepted-sound, carried-out}
+use Rattle.slots.specs.Calls.{Call}
+use Rattle.slots.specs.View.{answered, changed}
+use Rattle.slots.proofs.Outcomes as Any
 use Rattle.views.specs.Painting.{paintedWords}
 use Rattle.views.specs.Words.{painted-words}
-use Rattle.views.specs.Summary.{summaryOf, touchedSummary, summary-tells, touched-right}
+use Rattle.views.specs.Summary.{sixteen-fit, summaryOf, touchedSummary, summary-tells, touched-right}
 use Rattle.tree.specs.declared.Tree.{Tree}
-use Rattle.tree.specs.Layout.{treeOf, holding, treeView, slotOf, ofSlots, IsTree, sixteen-fit, sound-by-summary}
+use Rattle.tree.specs.Layout.{treeOf, holding, treeView, slotOf, ofSlots, IsTree, sound-by-summary}
 use Rattle.tree.specs.Inner.{paintedTree}
 
 -- ---- the summary tells whether a tree is sound
@@ -56,17 +54,8 @@ left-as-judged judge kept words summary s n v left updated e f =
     ap₂ treeOf e (f ∙ ap (λ (ws : List ℕ). touchedSummary ws summary s n) e)
     ∙ sym (left-accepted judge kept (treeOf words summary) (paintedTree words summary s n v))
 
--- the set that an accepted take leaves
-pub take-paints : (t : Tree) (n a start : ℕ) → value (at start) ≡ answered treeView t (takeCall 10 (slotOf t) n a)
-    → takeCall 10 (slotOf t) n a .after ≡ painted (slotOf t) start n true
-take-paints t n a start told =
-    let call = takeCall 10 (slotOf t) n a in
-    take-after 10 (slotOf t) n a start (sym (found-sound treeView t call (accepted-sound treeView t call (at start) (sym told))) ∙ sym told)
-
 pub carries : (t : Tree) → IsTree t → (call : Call Slots Reply) (s n : ℕ) (v : Bool) → call .after ≡ painted (slotOf t) s n v
     → (judge : Answer) → answerSays judge ≡ answered treeView t call → (left : Tree) → left ≡ leftBy judge t (paintedTree (t .words) (t .summary) s n v)
     → (answerSays judge, left) ≡ changed treeView t call
-carries t held call s n v after judge told left e =
-    ap (λ (map : Tree). (answerSays judge, map)) e
-    ∙ carried-out treeView t call (paintedTree (t .words) (t .summary) s n v)
-    (λ reply said. painted-tree t held (right-summary t (held .is-field) (accepted-sound treeView t call reply said)) s n v ∙ ap ofSlots (sym after)) judge told
+carries t held call s n v after =
+    Any.carries treeView t call s n v after (paintedTree (t .words) (t .summary) s n v) (λ sound. painted-tree t held (right-summary t (held .is-field) sound) s n v)

@@ -3,8 +3,7 @@ use mathlib.Core.Path.{_≡_, refl}
 use mathlib.Core.Logic.{_↔_}
 use mathlib.Core.Bool.{true}
 use mathlib.Core.List.{List}
-use Prim.Native.Nat.{ℕ, _+_, _*_, _^_, _≤_, _<_}
-use native.Mathlib.Omega.{arith}
+use Prim.Native.Nat.{ℕ, _+_, _*_, _^_, _<_}
 use lib.ListN.{length, getD}
 use Rattle.bits.specs.Digits.{digit}
 use Rattle.slots.specs.Sets.{Slots, SomeUsed}
@@ -15,7 +14,7 @@ use Rattle.slots.specs.View.{View}
 use Rattle.views.specs.Keeping.{carried, keeping}
 use Rattle.views.specs.Painting.{slotIn}
 use Rattle.views.specs.Words.{wordsView, word-digit}
-use Rattle.views.specs.Summary.{summaryOf, summaryKept, summary-agrees, part-used}
+use Rattle.views.specs.Summary.{sixteen-fit, summaryOf, summaryKept, summary-agrees, part-used}
 use Rattle.tree.specs.declared.Tree.{Tree}
 
 abbrev pub treeOf : List ℕ → ℕ → Tree
@@ -28,10 +27,6 @@ holding words = treeOf words (summaryOf words)
 -- slot s is bit s % 64 of word s / 64
 abbrev pub slotOf : Tree → Slots
 slotOf t = slotIn (t .words)
-
--- a row may have sixteen words
-pub sixteen-fit : 2 ^ 4 ≤ 256
-sixteen-fit = omega arith
 
 abbrev pub treeView : View plain
 treeView = carried (keeping (wordsView 4 sixteen-fit) (summaryKept 4 sixteen-fit)) Tree

@@ -2,3 +2,5 @@ pub mod Keeping
 pub mod Painting
 pub mod Words
 pub mod Summary
+pub mod Parts
+pub mod Summaries

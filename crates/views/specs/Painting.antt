@@ -225,3 +225,8 @@ unfolding paintedWords painted within
 painted-slots words s n v p l =
     painted-slot words s (endIn (slotsIn words) s n) v p l
     ∙ ap (λ (b : Bool). elim (leb s p && b) [ true ↦ v | false ↦ slotIn words p ]) (before-end (slotsIn words) s n p l)
+
+-- and are as many as they were
+pub painted-long : (words : List ℕ) (s n : ℕ) (v : Bool) → length (paintedWords words s n v) ≡ length words
+unfolding paintedWords
+painted-long words s n v = painted-length words s (endIn (slotsIn words) s n) v 256

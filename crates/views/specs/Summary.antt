@@ -13,8 +13,12 @@ use Rattle.bits.specs.Range.{either, same-test}
 use Rattle.bits.specs.Digits.{digit, number, digit-number, number-lt, number-agree, zero-digit, equal-digits}
 use Rattle.slots.specs.Sets.{Slots, Named, AllFree, SomeUsed, allFree, finds-all-free, finds-some-used}
 use Rattle.views.specs.Keeping.{Kept, BitsAgree, made-bits, only-bits, bitsKept}
-use Rattle.views.specs.Painting.{slotsIn, slotIn, slot-in-word, endIn, reaches, paintedWords, painted-length, kept-word}
+use Rattle.views.specs.Painting.{slotsIn, slotIn, slot-in-word, endIn, reaches, paintedWords, painted-long, kept-word}
 use Rattle.views.specs.Words.{AreWords, wordsOf, made-words, holds-words, wordsView, word-held}
+
+-- a row may have sixteen words
+pub sixteen-fit : 2 ^ 4 ≤ 256
+sixteen-fit = omega arith
 
 -- ---- the summary of a part of the words
 
@@ -114,7 +118,7 @@ none-used words held = (
 )
   where
     there : (i : ℕ) → i < 16 → i * 64 < slotsIn words
-    there i l = word-held 4 (omega arith) words held i l
+    there i l = word-held 4 sixteen-fit words held i l
 
 -- so the summary alone tells whether they are empty
 pub summary-tells : (words : List ℕ) → AreWords 4 words → eqb (summaryOf words) 0 ≡ allFree (slotIn words) 0 1024
@@ -137,13 +141,9 @@ reaches-alike slots more s n i l m =
     (λ t. lt→ltb (i * 64) (endIn slots s n) (omega (arith, ltb→lt (i * 64) (endIn more s n) t))))
 
 module _ (words : List ℕ) (s n : ℕ) (v : Bool) where
-  as-long : length (paintedWords words s n v) ≡ length words
-  unfolding paintedWords
-  as-long = painted-length words s (endIn (slotsIn words) s n) v 256
-
   as-many : partWords (paintedWords words s n v) ≡ partWords words
   unfolding partWords
-  as-many = ap (λ (l : ℕ). min l 16) as-long
+  as-many = ap (λ (l : ℕ). min l 16) (painted-long words s n v)
 
   -- a word of the part that the run does not reach is as it was, and past the words there is nothing
   kept-in-part : (i : ℕ) → i < 16 → reaches s (endIn (partWords words * 64) s n) i ≡ false → getD (paintedWords words s n v) i 0 ≡ getD words i 0
@@ -153,7 +153,7 @@ module _ (words : List ℕ) (s n : ℕ) (v : Bool) where
       (λ h. let inside = ltb-true i (length words) h in
       kept-word words s (endIn (slotsIn words) s n) v 256 i (reaches-alike (slotsIn words) (partWords words * 64) s n i (omega arith) (omega arith) ∙ t))
       (λ h. let past = ltb-false i (length words) h in
-      List·getD-eq-default (paintedWords words s n v) 0 {n = i} (rw as-long past) ∙ sym (List·getD-eq-default words 0 {n = i} past))
+      List·getD-eq-default (paintedWords words s n v) 0 {n = i} (rw (painted-long words s n v) past) ∙ sym (List·getD-eq-default words 0 {n = i} past))
 
 -- once a run is painted, bringing the bits of the touched words up to date makes the summary right again
 pub touched-right : (words : List ℕ) (summary s n : ℕ) (v : Bool) → summary ≡ summaryOf words

@@ -15,7 +15,7 @@ use Rattle.bits.specs.Digits.{digit, number, digit-number, number-lt, number-di
 use Rattle.slots.specs.Sets.{Slots, painted}
 use Rattle.slots.specs.Kinds.{plain}
 use Rattle.slots.specs.View.{View, made-alike}
-use Rattle.views.specs.Painting.{slotsIn, slotIn, slots-all, slot-there, slot-past, slot-in-word, endIn, paintedWords, painted-slots, painted-length, painted-fit}
+use Rattle.views.specs.Painting.{slotsIn, slotIn, slots-all, slot-there, slot-past, slot-in-word, endIn, paintedWords, painted-slots, painted-long, painted-fit}
 
 -- ---- lists
 
@@ -37,6 +37,14 @@ listed-at f s (suc n) (suc i) d h = listed-at f (suc s) n i d (omega arith) ∙ 
 
 pub listed-first : {A : Type 0} (f : ℕ → A) (n i : ℕ) (d : A) → i < n → getD (listed f 0 n) i d ≡ f i
 listed-first f n i d l = listed-at f 0 n i d l ∙ ap f (zero-add i)
+
+-- a list is known by its elements
+pub listed-is : {A : Type 0} (xs : List A) (f : ℕ → A) (n : ℕ) (d : A) → length xs ≡ n → ((i : ℕ) → i < n → getD xs i d ≡ f i) → xs ≡ listed f 0 n
+listed-is xs f n d many each =
+    ext-getD d xs (listed f 0 n) (many ∙ sym (length-listed f 0 n)) (λ i l. let b : i < n = rw (sym many) l in each i b ∙ sym (listed-first f n i d b))
+
+pub listed-agree : {A : Type 0} (f g : ℕ → A) (n : ℕ) (d : A) → ((i : ℕ) → i < n → f i ≡ g i) → listed f 0 n ≡ listed g 0 n
+listed-agree f g n d agree = listed-is (listed f 0 n) g n d (length-listed f 0 n) (λ i l. listed-first f n i d l ∙ agree i l)
 
 -- ---- the words of a set
 
@@ -119,7 +127,7 @@ module _ (j : ℕ) (most : 2 ^ j ≤ 256) where
   pub painted-are-words : (words : List ℕ) → AreWords j words → (s n : ℕ) (v : Bool) → AreWords j (paintedWords words s n v)
   unfolding paintedWords
   painted-are-words words held s n v = record {
-    so-many = painted-length words s (endIn (slotsIn words) s n) v 256 ∙ held .so-many;
+    so-many = painted-long words s n v ∙ held .so-many;
     each-fits = λ i l. painted-fit words s (endIn (slotsIn words) s n) v (any-fits j words held) 256 i;
   }
 

@@ -26,14 +26,8 @@ read-full-requires c κs = search needs
 returns : tie.Need-returns Inv-loop μ-loop
 returns c = search needs
 
-answered-requires : tie.Need-answered-requires Inv-loop μ-loop
-answered-requires c κs = search needs
-
-slice-aggregate-write-all : tie.Need-slice-aggregate-write-all Inv-loop μ-loop
-slice-aggregate-write-all c = search needs
-
-write-all-requires : tie.Need-write-all-requires Inv-loop μ-loop
-write-all-requires c κs = search needs
+served-requires : tie.Need-served-requires Inv-loop μ-loop
+served-requires c κs = search needs
 
 returns-2 : tie.Need-returns-2 Inv-loop μ-loop
 returns-2 c = search needs
@@ -58,9 +52,7 @@ main-spec =
     slice-aggregate-read-full
     read-full-requires
     returns
-    answered-requires
-    slice-aggregate-write-all
-    write-all-requires
+    served-requires
     returns-2
     loop-less
     loop-again

@@ -19,8 +19,8 @@ sub-i c = search needs
 add-wide : tie.Need-add-wide Inv-loop μ-loop
 add-wide c = search needs
 
-element-copy-out-wide : tie.Need-element-copy-out-wide Inv-loop μ-loop
-element-copy-out-wide c = search needs
+shared-slice-read-wide : tie.Need-shared-slice-read-wide Inv-loop μ-loop
+shared-slice-read-wide c = search needs
 
 wide-requires : tie.Need-wide-requires Inv-loop μ-loop
 wide-requires c κs = search needs
@@ -37,4 +37,14 @@ returns c = search needs
 pub number-at-spec : {M : Type 1} → statement M
 number-at-spec =
     tie.close
-    (tie.spec Inv-loop μ-loop loop-holds sub-i add-wide element-copy-out-wide wide-requires loop-less loop-again returns)
+    (tie.spec
+    Inv-loop
+    μ-loop
+    loop-holds
+    sub-i
+    add-wide
+    shared-slice-read-wide
+    wide-requires
+    loop-less
+    loop-again
+    returns)

@@ -5,16 +5,16 @@ use Rattle.compared_calls.proofs.image.put_number.Statement.{statement}
 use Rattle.compared_calls.proofs.image.put_number.Tie as tie
 
 abbrev Inv-loop : tie.InvT-loop
-Inv-loop bytes₀ at n rest₀ i₀ bytes rest i = i ≤ 8
+Inv-loop bytes₀ at n i₀ bytes i = i ≤ 8
 
 abbrev μ-loop : tie.MeasureT-loop
-μ-loop bytes₀ at n rest₀ i₀ bytes rest i = 8 - i
+μ-loop bytes₀ at n i₀ bytes i = 8 - i
 
 loop-holds : tie.Need-loop-holds Inv-loop μ-loop
 loop-holds c = search needs
 
-low-byte-requires : tie.Need-low-byte-requires Inv-loop μ-loop
-low-byte-requires c κs = search needs
+byte-of-requires : tie.Need-byte-of-requires Inv-loop μ-loop
+byte-of-requires c κs = search needs
 
 add-bytes : tie.Need-add-bytes Inv-loop μ-loop
 add-bytes c = search needs
@@ -37,4 +37,14 @@ returns c = search needs
 pub put-number-spec : {M : Type 1} → statement M
 put-number-spec =
     tie.close
-    (tie.spec Inv-loop μ-loop loop-holds low-byte-requires add-bytes element-write-bytes add-i loop-less loop-again returns)
+    (tie.spec
+    Inv-loop
+    μ-loop
+    loop-holds
+    byte-of-requires
+    add-bytes
+    element-write-bytes
+    add-i
+    loop-less
+    loop-again
+    returns)

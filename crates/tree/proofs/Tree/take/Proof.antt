@@ -7,9 +7,10 @@ use Rattle.answers.specs.Refusals.{numberOf}
 use Rattle.answers.specs.declared.Answer.the-variants.{At}
 use Rattle.slots.specs.Calls.{takeCall}
 use Rattle.slots.specs.View.{answered, says-refused}
+use Rattle.slots.proofs.Outcomes.{take-paints}
 use Rattle.tree.specs.Layout.{treeView, slotOf}
 use Rattle.tree.proofs.Values.{is-tree}
-use Rattle.tree.proofs.Outcomes.{carries, take-paints}
+use Rattle.tree.proofs.Outcomes.{carries}
 use Rattle.tree.proofs.Tree.take.Statement.{statement}
 use Rattle.tree.proofs.Tree.take.Tie as tie
 
@@ -48,7 +49,7 @@ returns-2 c =
     let call = takeCall 10 (slotOf t) (asked .n) (asked .a) in
     let start = known .found2 .given .0 .0 in
     let told = told-at (judging .judged-take .result) (answered treeView t call) (judging .judged-take .ensures) start (known .found2 .given .1) in
-    carries t (is-tree t (entry .good .0)) call start (asked .n) true (take-paints t (asked .n) (asked .a) start told) (At start) told _ (c .carried-out .ensures)
+    carries t (is-tree t (entry .good .0)) call start (asked .n) true (take-paints treeView t (asked .n) (asked .a) start told) (At start) told _ (c .carried-out .ensures)
 
 pub take-spec : {M : Type 1} → statement M
 take-spec =

@@ -6,7 +6,8 @@ use Rattle.bits.specs.Range.{count}
 use Rattle.slots.specs.Promises.{used-promise}
 use Rattle.slots.proofs.Outcomes.{shown-unsound, shown-sound}
 use Rattle.views.specs.Words.{slots-are}
-use Rattle.tree.specs.Layout.{treeView, slotOf, sixteen-fit}
+use Rattle.views.specs.Summary.{sixteen-fit}
+use Rattle.tree.specs.Layout.{treeView, slotOf}
 use Rattle.tree.proofs.Values.{is-tree}
 use Rattle.tree.proofs.Tree.used.Statement.{statement}
 use Rattle.tree.proofs.Tree.used.Tie as tie

@@ -7,8 +7,8 @@ use Rattle.answers.specs.Refusals.{numberOf}
 use Rattle.answers.specs.declared.Answer.the-variants.{At}
 use Rattle.slots.specs.Sets.{Slots}
 use Rattle.slots.specs.Calls.{takeCall}
-use Rattle.slots.specs.Promises.{take-after}
-use Rattle.slots.specs.View.{answered, says-refused, sound-answers}
+use Rattle.slots.specs.View.{answered, says-refused}
+use Rattle.slots.proofs.Outcomes.{take-paints}
 use Rattle.word.specs.Layout.{wordView, slotOf}
 use Rattle.word.proofs.Values.{is-word}
 use Rattle.word.proofs.Outcomes.{answers, carries}
@@ -53,7 +53,7 @@ returns-2 c =
     let call = takeCall 6 (slotOf w) (asked .n) (asked .a) in
     let start = known .found2 .given .0 .0 in
     let told = told-at (judging .take .result) (answered wordView w call) (judging .take .ensures ∙ answers w held (λ (S : Slots). takeCall 6 S (asked .n) (asked .a))) start (known .found2 .given .1) in
-    carries w held call start (asked .n) true (take-after 6 (slotOf w) (asked .n) (asked .a) start (sym (sound-answers wordView w call tt) ∙ sym told)) (At start) told _ (c .carried-out .ensures)
+    carries w held call start (asked .n) true (take-paints wordView w (asked .n) (asked .a) start told) (At start) told _ (c .carried-out .ensures)
 
 pub take-spec : {M : Type 1} → statement M
 take-spec =

@@ -1,26 +1,14 @@
--- `compared_calls::image::put_map` is safe, and ends: a word each turn. Assumes nothing.
+-- `compared_calls::image::put_words` is safe, and ends: a word each turn. Assumes nothing.
 use borrow.Author.Needs.{needs}
 use Prim.Native.Nat.{_-_, _≤_}
-use Rattle.compared_calls.proofs.image.put_map.Statement.{statement}
-use Rattle.compared_calls.proofs.image.put_map.Tie as tie
+use Rattle.compared_calls.proofs.image.put_words.Statement.{statement}
+use Rattle.compared_calls.proofs.image.put_words.Tie as tie
 
 abbrev Inv-loop : tie.InvT-loop
-Inv-loop answer₀ words summary i₀ answer i = i ≤ 16
+Inv-loop answer₀ words i₀ answer i = i ≤ 16
 
 abbrev μ-loop : tie.MeasureT-loop
-μ-loop answer₀ words summary i₀ answer i = 16 - i
-
-low-byte-requires : tie.Need-low-byte-requires Inv-loop μ-loop
-low-byte-requires c κs = search needs
-
-element-write-answer : tie.Need-element-write-answer Inv-loop μ-loop
-element-write-answer c = search needs
-
-low-byte-requires-2 : tie.Need-low-byte-requires-2 Inv-loop μ-loop
-low-byte-requires-2 c κs = search needs
-
-element-write-answer-2 : tie.Need-element-write-answer-2 Inv-loop μ-loop
-element-write-answer-2 c = search needs
+μ-loop answer₀ words i₀ answer i = 16 - i
 
 loop-holds : tie.Need-loop-holds Inv-loop μ-loop
 loop-holds c = search needs
@@ -46,16 +34,12 @@ loop-again c = search needs
 returns : tie.Need-returns Inv-loop μ-loop
 returns c = search needs
 
-pub put-map-spec : {M : Type 1} → statement M
-put-map-spec =
+pub put-words-spec : {M : Type 1} → statement M
+put-words-spec =
     tie.close
     (tie.spec
     Inv-loop
     μ-loop
-    low-byte-requires
-    element-write-answer
-    low-byte-requires-2
-    element-write-answer-2
     loop-holds
     mul-put-word
     element-copy-out-put-word

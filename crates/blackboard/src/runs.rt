@@ -1,0 +1,47 @@
+// What a call leaves of a map that has a summary: the runs of used slots, first and last slot of each, and the
+// summary. The same for a tree and for the third level.
+use crate::show;
+use answers::Answer;
+
+// One slot further: where a run of used slots begins or ends, that is printed. Answers whether the
+// slot is used; `last` is the slot before it, and `inside` whether that one is.
+fn edge(slot: usize, last: usize, inside: bool, used: bool) -> bool {
+    if used {
+        if !inside {
+            show::text(b" ");
+            show::number(slot as u64);
+        }
+        return true;
+    }
+    if inside {
+        show::text(b"..");
+        show::number(last as u64);
+    }
+    false
+}
+
+// The runs; none is said as such. After the last slot a run ends.
+fn put(words: &[u64], slots: usize) {
+    let mut slot = 0;
+    let mut last = 0;
+    let mut inside = false;
+    while slot < slots {
+        let used = rows::get(words, slot);
+        inside = edge(slot, last, inside, used);
+        last = slot;
+        slot += 1;
+    }
+    edge(slot, last, inside, false);
+}
+
+// The answer, and what is left: the slots of these words, so many in all, under the summary.
+pub fn left(answer: Answer, words: &[u64], slots: usize, summary: u16) {
+    show::answer(answer);
+    show::text(b", leaves");
+    if rows::count(words) == 0 {
+        show::text(b" none");
+    }
+    put(words, slots);
+    show::text(b" under summary ");
+    show::number(summary as u64);
+}

@@ -1,0 +1,80 @@
+// The third level: the map by its name, the call, its answer, and what is then left as a tree shows it. The
+// summary is the one over the trees; after it stand the trees whose own summary is not 0, those side by side
+// that have the same one as first and last. A refused map is shown too.
+use crate::asked;
+use crate::runs;
+use crate::show;
+use third::Changed;
+use third::Third;
+
+// The trees from `first` to `last`, which have this summary. One that is 0 is not said.
+fn group(first: usize, last: usize, summary: u16) {
+    if summary == 0 {
+        return;
+    }
+    show::asked(b", trees ", first as u64, b"..", last as u64);
+    show::text(b" under ");
+    show::number(summary as u64);
+}
+
+// Those side by side that have the same summary, together.
+fn groups(summaries: [u16; 16]) {
+    let mut first = 0;
+    let mut last = 0;
+    while last < 15 {
+        if summaries[last] != summaries[last + 1] {
+            group(first, last, summaries[last]);
+            first = last + 1;
+        }
+        last += 1;
+    }
+    group(first, last, summaries[15]);
+}
+
+fn left(changed: Changed) {
+    let answer = changed.answer;
+    let map = changed.map;
+    let words = map.words();
+    runs::left(answer, &words, 16384, map.summary());
+    groups(map.summaries());
+    show::text(b"\n");
+}
+
+pub fn take(name: u8, map: Third, n: usize, a: usize) {
+    asked::take(name, n, a);
+    left(map.take(n, a));
+}
+
+pub fn claim(name: u8, map: Third, start: usize, n: usize) {
+    asked::claim(name, start, n);
+    left(map.claim(start, n));
+}
+
+pub fn free(name: u8, map: Third, start: usize, n: usize) {
+    asked::free(name, start, n);
+    left(map.free(start, n));
+}
+
+pub fn set(name: u8, map: Third, start: usize, n: usize, used: bool) {
+    asked::set(name, start, n, used);
+    left(map.set(start, n, used));
+}
+
+pub fn next_free(name: u8, map: Third, start: usize) {
+    asked::next_free(name, start);
+    show::next_free_answer(map.next_free(start));
+}
+
+pub fn get(name: u8, map: Third, slot: usize) {
+    asked::get(name, slot);
+    show::truth_answer(map.get(slot));
+}
+
+pub fn counts(name: u8, map: Third) {
+    asked::empty(name);
+    show::truth_answer(map.empty());
+    asked::used(name);
+    show::number_answer(map.used());
+    asked::capacity(name);
+    show::value(map.capacity() as u64);
+}

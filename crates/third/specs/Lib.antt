@@ -1,0 +1,4 @@
+pub mod Layout
+pub mod Contracts
+pub mod Inner
+pub mod Demands
