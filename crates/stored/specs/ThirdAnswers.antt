@@ -7,9 +7,9 @@ use Rattle.bits.specs.Range.{count}
 use Rattle.bits.specs.Digits.{digit}
 use Rattle.source.specs.Machine.{gives}
 use lib.ListN.{replicate}
-use Rattle.source.specs.BitmapAllocator.{set64, next-free64, get64, set-turn, set-tree, next-free-turn, next-free-tree, get-tree, sum-used, free, size-turn, alloc-onward, alloc-turn, alloc-aligned, alloc}
+use Rattle.source.specs.BitmapAllocator.{Allocator16384, set64, next-free64, get64, set-turn, set-tree, next-free-turn, next-free-tree, get-tree, sum-used, free, size-turn, alloc-onward, alloc-turn, alloc-aligned, alloc}
 use Rattle.source.specs.Shown.{tree, slot, truth, number, same, all}
-use Rattle.stored.specs.ThirdShown.{Allocator16384, third, third-shown, third-take, third-change}
+use Rattle.stored.specs.ThirdShown.{third, third-shown, third-take, third-change}
 
 pub answers-1 : all (
     -- third free 0 0 = none: attempt to subtract with overflow

@@ -3,13 +3,7 @@ use mathlib.Core.Option.{Option, none, some}
 use mathlib.Core.List.{List, [], _∷_, _++_, map}
 use Prim.Native.Nat.{ℕ}
 use Rattle.source.specs.Machine.{Run, gives, stops}
-use Rattle.source.specs.BitmapAllocator.{BitmapAllocator, BitmapTree, Bitmap64, Bitmap1024, AllocatorTree, Allocator1024}
-
-abbrev Bitmap16384 : Type 0
-Bitmap16384 = BitmapTree Bitmap1024
-
-abbrev pub Allocator16384 : BitmapAllocator Bitmap16384
-Allocator16384 = AllocatorTree Allocator1024
+use Rattle.source.specs.BitmapAllocator.{Bitmap64, Bitmap1024, Bitmap16384}
 
 abbrev pub third : ℕ → List Bitmap1024 → Bitmap16384
 third bits trees = record { bits = bits; child = trees }
