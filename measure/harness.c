@@ -13,6 +13,10 @@ number third_takes(number *words, number n, number a, number times);
 number orig_third_takes(number *words, number n, number a, number times);
 number third_frees(number *words, const number *starts, number count, number n);
 number orig_third_frees(number *words, const number *starts, number count, number n);
+number word_takes(number *words, number n, number a, number times);
+number orig_word_takes(number *words, number n, number a, number times);
+number word_frees(number *words, const number *starts, number count, number n);
+number orig_word_frees(number *words, const number *starts, number count, number n);
 
 struct time { long seconds, nanoseconds; };
 int clock_gettime(int clock, struct time *);
@@ -34,7 +38,11 @@ __attribute__((noinline)) void carry_out(struct call *call, struct left *left) {
     case 6: left->used = third_takes(left->words, call->n, call->a, call->count); break;
     case 7: left->used = orig_third_takes(left->words, call->n, call->a, call->count); break;
     case 8: left->used = third_frees(left->words, call->starts, call->count, call->n); break;
-    default: left->used = orig_third_frees(left->words, call->starts, call->count, call->n);
+    case 9: left->used = orig_third_frees(left->words, call->starts, call->count, call->n); break;
+    case 10: left->used = word_takes(left->words, call->n, call->a, call->count); break;
+    case 11: left->used = orig_word_takes(left->words, call->n, call->a, call->count); break;
+    case 12: left->used = word_frees(left->words, call->starts, call->count, call->n); break;
+    default: left->used = orig_word_frees(left->words, call->starts, call->count, call->n);
     }
 }
 

@@ -1,9 +1,9 @@
-//! The original's maps behind the exports of `crates/measured`, with the same loops: its tree, and the tree
-//! of trees that is the third level. The original's file is included from the folder ORIGINAL when this is
-//! built, and is not copied.
+//! The original's maps behind the exports of `crates/measured`, with the same loops: its word, its tree, and
+//! the tree of trees that is the third level. The original's file is included from the folder ORIGINAL when
+//! this is built, and is not copied.
 #![no_std]
 
-use original::{BitmapAllocator, BitmapAllocator1024, Held, Third};
+use original::{BitmapAllocator, BitmapAllocator64, BitmapAllocator1024, Held, Third};
 
 #[allow(dead_code, unexpected_cfgs)]
 mod original {
@@ -15,6 +15,18 @@ mod original {
     pub trait Held<const N: usize> {
         fn holding(words: &[u64; N]) -> Self;
         fn store(&self, words: &mut [u64; N]);
+    }
+
+    impl Held<1> for BitmapAllocator64 {
+        fn holding(words: &[u64; 1]) -> Self {
+            let mut map = Self::default();
+            map.bits = words[0];
+            map
+        }
+
+        fn store(&self, words: &mut [u64; 1]) {
+            words[0] = self.bits;
+        }
     }
 
     impl Held<16> for BitmapAllocator1024 {
@@ -102,3 +114,4 @@ macro_rules! exports {
 
 exports!(BitmapAllocator1024, 16, orig_take, orig_free, orig_takes, orig_frees);
 exports!(Third, 256, orig_third_take, orig_third_free, orig_third_takes, orig_third_frees);
+exports!(BitmapAllocator64, 1, orig_word_take, orig_word_free, orig_word_takes, orig_word_frees);

@@ -3,6 +3,7 @@
 use mathlib.Core.Path.{_≡_, sym, ap, _∙_}
 use mathlib.Core.List.{List, [], _∷_, map}
 use Prim.Native.Nat.{ℕ, zero, suc, _^_}
+use lib.ListN.{getD}
 use Rattle.bits.specs.Range.{count}
 use Rattle.views.specs.Painting.{slotIn}
 use Rattle.slots.specs.Kinds.{plain}
@@ -14,6 +15,8 @@ use Rattle.tree.specs.Layout.{holding, treeView}
 use Rattle.third.specs.declared.Third.{Third}
 use Rattle.third.specs.Layout as Third
 use Rattle.third.specs.Layout.{thirdView}
+use Rattle.word.specs.declared.Word.{Word}
+use Rattle.word.specs.Layout.{wordOf, wordView}
 
 abbrev pub takesOf : ℕ → ℕ → ℕ → List Asked
 takesOf n a zero = []
@@ -74,3 +77,22 @@ third-takes-one-answer words n a times = one-answer thirdView (λ t. t .words) (
 pub third-frees-one-answer : (words starts : List ℕ) (n r q : ℕ) (after other : List ℕ) → ThirdFreesSays words starts n r after → ThirdFreesSays words starts n q other
     → (r ≡ q) × (after ≡ other)
 third-frees-one-answer words starts n = one-answer thirdView (λ t. t .words) (Third.holding words) (freesOf starts n)
+
+-- ---- the word, which is lent as a row of one
+
+abbrev pub LeftInWordSays : Word → ℕ → List ℕ → Type 0
+LeftInWordSays m r after = Left wordView (λ w. w .bits ∷ []) m r after
+
+abbrev pub WordTakesSays : List ℕ → ℕ → ℕ → ℕ → ℕ → List ℕ → Type 0
+WordTakesSays words n a times r after = After wordView (λ w. w .bits ∷ []) (wordOf (getD words 0 0)) (takesOf n a times) r after
+
+abbrev pub WordFreesSays : List ℕ → List ℕ → ℕ → ℕ → List ℕ → Type 0
+WordFreesSays words starts n r after = After wordView (λ w. w .bits ∷ []) (wordOf (getD words 0 0)) (freesOf starts n) r after
+
+pub word-takes-one-answer : (words : List ℕ) (n a times r q : ℕ) (after other : List ℕ) → WordTakesSays words n a times r after → WordTakesSays words n a times q other
+    → (r ≡ q) × (after ≡ other)
+word-takes-one-answer words n a times = one-answer wordView (λ w. w .bits ∷ []) (wordOf (getD words 0 0)) (takesOf n a times)
+
+pub word-frees-one-answer : (words starts : List ℕ) (n r q : ℕ) (after other : List ℕ) → WordFreesSays words starts n r after → WordFreesSays words starts n q other
+    → (r ≡ q) × (after ≡ other)
+word-frees-one-answer words starts n = one-answer wordView (λ w. w .bits ∷ []) (wordOf (getD words 0 0)) (freesOf starts n)

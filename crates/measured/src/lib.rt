@@ -1,9 +1,10 @@
 // What the measurement calls from outside: takes and frees one after the other on a map that is lent as
-// its words, a tree by value and in place, the third level by value. Thin: a loop over the calls of
-// `tree`, of `in_place` and of `third`.
+// its words, a tree by value and in place, the third level and the word by value. Thin: a loop over the
+// calls of `tree`, of `in_place`, of `third` and of `word`.
 use third::Third;
 use tree::Tree;
-ghost use Rattle.measured.specs.Series.{TakesSays, FreesSays, LeftInSays, ThirdTakesSays, ThirdFreesSays, LeftInThirdSays};
+use word::Word;
+ghost use Rattle.measured.specs.Series.{TakesSays, FreesSays, LeftInSays, ThirdTakesSays, ThirdFreesSays, LeftInThirdSays, WordTakesSays, WordFreesSays, LeftInWordSays};
 
 // So many takes of n slots at a multiple of 2^a; a take that is refused changes nothing. Answers how
 // many slots are used then. Never refused.
@@ -108,6 +109,42 @@ fn left_in_third(words: &mut [u64; 256], third: Third) -> usize
     ensures { λ r. ⌜ LeftInThirdSays third r (now (words .exit)) ⌝ }
 {
     let left = third.words();
+    *words = left;
+    rows::count(&left)
+}
+
+// ---- the same at the word
+
+#[no_mangle]
+pub extern "C" fn word_takes(words: &mut [u64; 1], n: usize, a: usize, times: usize) -> usize
+    ensures { λ r. ⌜ WordTakesSays (now (words .entry)) n a times r (now (words .exit)) ⌝ }
+{
+    let mut word = Word::holding(words[0]);
+    let mut left = times;
+    while left > 0 {
+        word = word.take(n, a).map;
+        left -= 1;
+    }
+    left_in_word(words, word)
+}
+
+#[no_mangle]
+pub extern "C" fn word_frees(words: &mut [u64; 1], starts: &[u64], n: usize) -> usize
+    ensures { λ r. ⌜ WordFreesSays (now (words .entry)) (now (starts .entry)) n r (now (words .exit)) ⌝ }
+{
+    let mut word = Word::holding(words[0]);
+    let mut i = 0;
+    while i < starts.len() {
+        word = word.free(starts[i] as usize, n).map;
+        i += 1;
+    }
+    left_in_word(words, word)
+}
+
+fn left_in_word(words: &mut [u64; 1], word: Word) -> usize
+    ensures { λ r. ⌜ LeftInWordSays word r (now (words .exit)) ⌝ }
+{
+    let left = [word.bits()];
     *words = left;
     rows::count(&left)
 }
