@@ -50,21 +50,26 @@ pub fn count(words: &[u64]) -> usize
 }
 
 // The least free slot from `from` on, those past the words among them; 16,384 where `from` is there
-// or beyond.
+// or beyond. That slot itself is asked first, and only then words: where it is free, a search goes on
+// without waiting for a count of zeros.
 pub fn first_free(words: &[u64], from: usize) -> usize
     ensures { λ r. ⌜ FirstFreeSays (now (words .entry)) from r ⌝ }
 {
     if MOST_SLOTS <= from {
         return MOST_SLOTS;
     }
+    if !get(words, from) {
+        return from;
+    }
     let end = slots(words);
     let mut start = from;
     while start < end {
+        let first = start / 64 * 64;
         let place = places::first_free(words[start / 64], start % 64);
         if place < 64 {
-            return start / 64 * 64 + place;
+            return first + place;
         }
-        start = (start / 64 + 1) * 64;
+        start = first + 64;
     }
     start
 }
