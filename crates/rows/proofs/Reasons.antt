@@ -1,7 +1,7 @@
 -- What the loops over the words come to: the reasons behind `rows`. Assumes nothing.
 use mathlib.Core.Path.{_≡_, sym, ap, ap₂, _∙_}
 use mathlib.Core.Logic.{_↔_}
-use mathlib.Core.Bool.{Bool, true, false, not, _&&_, _||_}
+use mathlib.Core.Bool.{Bool, true, false, not, _&&_, _||_, true≢false, false≢true}
 use mathlib.Core.List.{List}
 use Prim.Native.Nat.{ℕ, suc, _+_, _-_, _*_, _/_, _%_, _^_, _≤_, _<_, zero-le, min}
 use native.Mathlib.Nat.{lt-of-le-of-lt, mod-eq-of-lt, zero-add, lt-of-not-le, min-eq-left, le-refl, le-trans, le-of-lt}
@@ -12,11 +12,11 @@ use lib.Bits.{bitOr, bitAnd, or-lt, and-le-l}
 use lib.Dec.{T, leb, ltb, eqb, leb→le, le→leb, ltb→lt, lt→ltb}
 use lib.Pow.{pow-pos, pow-lt}
 use borrow.Author.Tests.{lt-ltb, le-ltb, lt-leb, le-leb, eq-eqb, ne-eqb, ltb-true, ltb-false, eqb-true, eqb-false, leb-true, not-true, not-false}
-use Rattle.bits.specs.Range.{bit, and-true, and-false, or-true, or-false, either, same-test, within, finds-every, least, least-is, least-none, least-from, least-passes, least-first, count, count-agree, count-most, count-split, count-moved}
+use Rattle.bits.specs.Range.{bit, and-true, and-false, or-false, either, same-test, within, within-named, within-found, finds-every, least, least-is, least-none, least-from, least-passes, least-first, count, count-agree, count-most, count-split, count-moved}
 use Rattle.bits.specs.Digits.{digit, number, digit-number, number-is, number-agree, number-lt, zero-digit, and-digit, or-digit, up-digit, bit-digit, power-digit, complement-digit, read-digit}
-use Rattle.slots.specs.Sets.{Slots, allFree, allUsed, finds-all-free, finds-all-used, finds-some-free, finds-some-used}
+use Rattle.slots.specs.Sets.{Slots, Named, allFree, allUsed, finds-all-free, finds-all-used}
 use Rattle.slots.specs.Lowest.{freeFrom}
-use Rattle.places.specs.Places.{runMask, usedIn, paintedIn}
+use Rattle.places.specs.Places.{runMask, freeIn, usedIn, paintedIn}
 use Rattle.rows.specs.Rows.{withBit}
 use Rattle.views.specs.Summary.{usedWord, partWords}
 use Rattle.views.specs.Painting.{slotsIn, slotIn, slots-most, slot-there, slot-past, slot-in-word, endIn, partMask, reaches, paintedFirst, paint-on, paint-ahead, paint-rest}
@@ -240,36 +240,25 @@ module _ (words : List ℕ) (from start : ℕ) (passed : Passed words from start
       let near = passed .near in
       sym (least-none (λ i. not (slotIn words i)) (min from 16384) (16384 - from) (λ p f h. ap not (passed .used p (omega arith) (omega arith))) ∙ omega arith))
 
--- ---- a run asked slot by slot
-
--- each slot from s up to i has the value v
-abbrev pub HasTo : Bool → List ℕ → ℕ → ℕ → Type 0
-HasTo v words s i = (p : ℕ) → s ≤ p → p < i → slotIn words p ≡ v
-
-pub has-none : (v : Bool) (words : List ℕ) (s : ℕ) → HasTo v words s s
-has-none v words s p f b = absurd (omega arith)
-
-pub has-on : (v : Bool) (words : List ℕ) (s i : ℕ) → HasTo v words s i → slotIn words i ≡ v → HasTo v words s (i + 1)
-has-on v words s i before here p f b = either (ltb p i) (λ t. before p f (ltb-true p i t)) (λ t. let last = ltb-false p i t in ap (slotIn words) (omega arith) ∙ here)
-
-pub run-used-at : (S : Slots) (s n p : ℕ) → s ≤ p → p < s + n → S p ≡ true → false ≡ allFree S s n
-run-used-at S s n p l b used = sym (not-true (allFree S s n) (same-test (not (allFree S s n)) true (λ _. tt) (λ _. finds-some-used S s n .1 (p, (l, b), used))))
-
--- free up to the run's end among the words: past them each slot is free
-pub run-all-free : (words : List ℕ) (s n i : ℕ) → endIn (slotsIn words) s n ≤ i → HasTo false words s i → true ≡ allFree (slotIn words) s n
-unfolding endIn
-run-all-free words s n i ends free =
-    same-test true (allFree (slotIn words) s n)
-    (λ _. finds-all-free (slotIn words) s n .1 (λ p h.
-    either (ltb p i) (λ t. free p (h .0) (ltb-true p i t)) (λ t. let past = ltb-false p i t in slot-past words p (omega (arith, h .1))))) (λ _. tt)
-
 -- a slot of the words, as the machine reads it
 pub read-slot : (words : List ℕ) (s : ℕ) → s < slotsIn words → eqb (getD words (s / 64) 0 / 2 ^ (s % 64) % 2) 1 ≡ slotIn words s
 read-slot words s l = read-digit (getD words (s / 64) 0) (s % 64) ∙ sym (slot-there words s l)
 
-pub before-end : (slots s n e : ℕ) → e ≡ endIn slots s n → (e ≤ slots) × ((i : ℕ) → i < e → i < s + n)
+-- ---- where a run ends among the words
+
+pub before-end : (slots s n e : ℕ) → e ≡ endIn slots s n → (e ≤ slots) × (e ≤ s + n)
 unfolding endIn
-before-end slots s n e is = (rw is (omega arith), λ i l. omega (arith, is))
+before-end slots s n e is = (omega (arith, is), omega (arith, is))
+
+-- before the words' end it is the run's own
+pub ends-inside : (slots s n e : ℕ) → e ≡ endIn slots s n → e < slots → e ≡ s + n
+unfolding endIn
+ends-inside slots s n e is l = omega (arith, is)
+
+-- what is left of the run from there on lies past the words, and is free
+pub free-past : (words : List ℕ) (s n e p : ℕ) → e ≡ endIn (slotsIn words) s n → e ≤ p → p < s + n → slotIn words p ≡ false
+unfolding endIn
+free-past words s n e p is l b = slot-past words p (omega (arith, is))
 
 -- ---- the part of a run that lies in one word
 
@@ -277,19 +266,24 @@ agree-leb : (a b c d : ℕ) → (a ≤ b → c ≤ d) → (c ≤ d → a ≤ b) 
 agree-leb a b c d f g = same-test (leb a b) (leb c d) (λ t. le→leb c d (f (leb→le a b t))) (λ t. le→leb a b (g (leb→le c d t)))
 
 module _ (s e i : ℕ) where
-  part-of : (lo n : ℕ) → ((p : ℕ) → leb lo p ≡ leb s (i * 64 + p)) → ((p : ℕ) → ltb p (lo + n) ≡ ltb (i * 64 + p) e) → runMask lo n ≡ partMask s e i
+  part-of : (lo n : ℕ) → ((p : ℕ) → leb lo p ≡ leb s (i * 64 + p)) → ((p : ℕ) → p < 64 → ltb p (lo + n) ≡ ltb (i * 64 + p) e) → runMask lo n ≡ partMask s e i
   unfolding runMask partMask within
-  part-of lo n below above = number-agree _ _ 64 (λ p l. ap₂ (λ (b c : Bool). b && c) (below p) (above p))
+  part-of lo n below above = number-agree _ _ 64 (λ p l. ap₂ (λ (b c : Bool). b && c) (below p) (above p l))
+
+  -- where the run began before the word, or with it
+  part-up-to : s ≤ i * 64 → (n : ℕ) → ((p : ℕ) → p < 64 → ltb p (0 + n) ≡ ltb (i * 64 + p) e) → runMask 0 n ≡ partMask s e i
+  part-up-to l n above = part-of 0 n (λ p. agree-leb 0 p s (i * 64 + p) (λ h. omega arith) (λ h. omega arith)) above
 
   pub part-to-end : s ≤ i * 64 → i * 64 < e → runMask 0 (e - i * 64) ≡ partMask s e i
-  part-to-end l m =
-      part-of 0 (e - i * 64) (λ p. agree-leb 0 p s (i * 64 + p) (λ h. omega arith) (λ h. omega arith))
-      (λ p. agree-leb (suc p) (0 + (e - i * 64)) (suc (i * 64 + p)) e (λ h. omega arith) (λ h. omega arith))
+  part-to-end l m = part-up-to l (e - i * 64) (λ p _. agree-leb (suc p) (0 + (e - i * 64)) (suc (i * 64 + p)) e (λ h. omega arith) (λ h. omega arith))
+
+  pub part-whole : s ≤ i * 64 → (i + 1) * 64 ≤ e → runMask 0 64 ≡ partMask s e i
+  part-whole l m = part-up-to l 64 (λ p b. agree-leb (suc p) (0 + 64) (suc (i * 64 + p)) e (λ h. omega arith) (λ h. omega arith))
 
   pub part-inside : i * 64 ≤ s → s ≤ e → runMask (s - i * 64) (e - s) ≡ partMask s e i
   part-inside l m =
       part-of (s - i * 64) (e - s) (λ p. agree-leb (s - i * 64) p s (i * 64 + p) (λ h. omega arith) (λ h. omega arith))
-      (λ p. agree-leb (suc p) (s - i * 64 + (e - s)) (suc (i * 64 + p)) e (λ h. omega arith) (λ h. omega arith))
+      (λ p _. agree-leb (suc p) (s - i * 64 + (e - s)) (suc (i * 64 + p)) e (λ h. omega arith) (λ h. omega arith))
 
   pub part-none : e ≤ s → 0 ≡ partMask s e i
   unfolding partMask
@@ -298,6 +292,10 @@ module _ (s e i : ℕ) where
       none : (p : ℕ) → leb s (i * 64 + p) && ltb (i * 64 + p) e ≡ false
       none p = either (ltb (i * 64 + p) e) (λ t. let b = ltb-true (i * 64 + p) e t in rw (lt-leb s (i * 64 + p) (omega arith)))
           (λ t. rw t (and-false (leb s (i * 64 + p))))
+
+-- the word in which the run begins
+pub part-first : (s n : ℕ) → runMask (s % 64) n ≡ partMask s (s + n) (s / 64)
+part-first s n = ap₂ runMask (omega arith) (omega arith) ∙ part-inside s (s + n) (s / 64) (omega arith) (omega arith)
 
 -- ---- painting word by word
 
@@ -321,55 +319,83 @@ pub ends-within : (words : List ℕ) (s n : ℕ) → endIn (slotsIn words) s n �
 unfolding endIn
 ends-within words s n = omega (arith, slots-most words)
 
--- ---- a run asked word by word
+-- ---- a run asked word by word, for the value v: true where each slot is to be used, false where each is to be free
 
-pub run-free-at : (S : Slots) (s n p : ℕ) → s ≤ p → p < s + n → S p ≡ false → false ≡ allUsed S s n
-run-free-at S s n p l b free = sym (not-true (allUsed S s n) (same-test (not (allUsed S s n)) true (λ _. tt) (λ _. finds-some-free S s n .1 (p, (l, b), free))))
+-- each place of the mask has the value
+abbrev pub maskHas : Bool → ℕ → ℕ → Bool
+maskHas true word mask = usedIn word mask
+maskHas false word mask = freeIn word mask
 
-pub run-all-used : (S : Slots) (s n : ℕ) → ((p : ℕ) → s ≤ p → p < s + n → S p ≡ true) → true ≡ allUsed S s n
-run-all-used S s n used = same-test true (allUsed S s n) (λ _. finds-all-used S s n .1 (λ p h. used p (h .0) (h .1))) (λ _. tt)
+-- each of the n slots from s on has the value
+abbrev pub runHas : Bool → Slots → ℕ → ℕ → Bool
+runHas true S s n = allUsed S s n
+runHas false S s n = allFree S s n
 
-module _ (words : List ℕ) (s e i : ℕ) (here : i * 64 < slotsIn words) where
-  in-mask : (p : ℕ) → p < 64 → digit (partMask s e i) p ≡ leb s (i * 64 + p) && ltb (i * 64 + p) e
-  unfolding partMask
-  in-mask p l = digit-number _ 64 p l
+finds-mask : (v : Bool) (word mask : ℕ) → T (maskHas v word mask) ↔ ((p : ℕ) → p < 64 → digit mask p ≡ true → digit word p ≡ v)
+unfolding usedIn freeIn
+finds-mask true word mask =
+    let found = finds-every (λ p. not (digit mask p) || digit word p) 0 64 in (
+      λ t p l m. rw m at (found .0 t p zero-le (omega arith)),
+      λ all. found .1 (λ p _ l. either (digit mask p) (λ m. rw (m, all p (omega arith) m)) (λ m. rw m)),
+    )
+finds-mask false word mask =
+    let found = finds-every (λ p. not (digit mask p && digit word p)) 0 64 in (
+      λ t p l m. not-true (digit word p) (rw m at (found .0 t p zero-le (omega arith))),
+      λ all. found .1 (λ p _ l. either (digit mask p) (λ m. rw (m, all p (omega arith) m)) (λ m. rw m)),
+    )
 
-  asked-of-word : T (usedIn (getD words i 0) (partMask s e i)) ↔ ((p : ℕ) → p < 64 → s ≤ i * 64 + p → i * 64 + p < e → digit (getD words i 0) p ≡ true)
-  unfolding usedIn
-  asked-of-word =
-      let found = finds-every (λ p. not (digit (partMask s e i) p) || digit (getD words i 0) p) 0 64 in (
-        λ t p l f b. rw (in-mask p l, le-leb s (i * 64 + p) f, lt-ltb (i * 64 + p) e b) at (found .0 t p zero-le (omega arith)),
-        λ all. found .1 (λ p _ l. let m : p < 64 = omega arith in
-            either (leb s (i * 64 + p))
-            (λ f. either (ltb (i * 64 + p) e)
-            (λ b. rw (all p m (leb-true s (i * 64 + p) f) (ltb-true (i * 64 + p) e b)) (or-true (not (digit (partMask s e i) p))))
-            (λ b. rw (in-mask p m, b, and-false (leb s (i * 64 + p)))))
-            (λ f. rw (in-mask p m, f))),
-      )
+finds-run : (v : Bool) (S : Slots) (s n : ℕ) → T (runHas v S s n) ↔ ((p : ℕ) → Named s n p → S p ≡ v)
+finds-run true S s n = finds-all-used S s n
+finds-run false S s n = finds-all-free S s n
 
-  word-used : (flag : Bool) → flag ≡ usedIn (getD words i 0) (partMask s e i) → flag ≡ true → (p : ℕ) → s ≤ p → p < e → i * 64 ≤ p → p < (i + 1) * 64 → slotIn words p ≡ true
-  word-used flag told yes-flag p f b l h =
-      seen words i p here l h ∙ asked-of-word .0 (rw (sym told ∙ yes-flag) tt) (p - i * 64) (omega arith) (omega arith) (omega arith)
+-- one slot of the run has the other value
+pub run-has-not : (v : Bool) (S : Slots) (s n p : ℕ) → Named s n p → S p ≡ not v → false ≡ runHas v S s n
+run-has-not v S s n p named other =
+    same-test false (runHas v S s n) (λ t. absurd t) (λ t. differs v (sym (finds-run v S s n .0 t p named) ∙ other))
+  where
+    differs : (b : Bool) → b ≡ not b → ⊥
+    differs true e = true≢false e
+    differs false e = false≢true e
 
-  word-not-used : (flag : Bool) → flag ≡ usedIn (getD words i 0) (partMask s e i) → flag ≡ false → ((p : ℕ) → s ≤ p → p < e → slotIn words p ≡ true) → ⊥
-  word-not-used flag told no-flag used =
-      rw (sym told ∙ no-flag) at (asked-of-word .1 (λ p l f b. sym (slot-in-word words i p here l) ∙ used (i * 64 + p) f b))
+-- each slot of the run that lies before word i has the value
+abbrev pub HasTo : Bool → List ℕ → ℕ → ℕ → ℕ → Type 0
+HasTo v words s n i = (p : ℕ) → Named s n p → p < i * 64 → slotIn words p ≡ v
 
--- each slot of the run before word i is used
-abbrev pub UsedTo : List ℕ → ℕ → ℕ → ℕ → Type 0
-UsedTo words s e i = (p : ℕ) → s ≤ p → p < e → p < i * 64 → slotIn words p ≡ true
+module _ (v : Bool) (words : List ℕ) (s n : ℕ) where
+  pub has-none : HasTo v words s n (s / 64)
+  has-none p named b = absurd (omega (arith, named .0))
 
-pub used-none : (words : List ℕ) (s e : ℕ) → UsedTo words s e (s / 64)
-used-none words s e p f b l = absurd (omega arith)
+  pub has-all : (i : ℕ) → HasTo v words s n i → ((p : ℕ) → Named s n p → i * 64 ≤ p → slotIn words p ≡ v) → true ≡ runHas v (slotIn words) s n
+  has-all i before rest =
+      same-test true (runHas v (slotIn words) s n)
+      (λ _. finds-run v (slotIn words) s n .1 (λ p named.
+      either (ltb p (i * 64)) (λ t. before p named (ltb-true p (i * 64) t)) (λ t. rest p named (ltb-false p (i * 64) t)))) (λ _. tt)
 
-pub used-on : (words : List ℕ) (s e i : ℕ) → i * 64 < slotsIn words → (flag : Bool) → flag ≡ usedIn (getD words i 0) (partMask s e i) → flag ≡ true
-    → UsedTo words s e i → UsedTo words s e (i + 1)
-used-on words s e i here flag told yes-flag before p f b l =
-    either (ltb p (i * 64)) (λ t. before p f b (ltb-true p (i * 64) t))
-    (λ t. word-used words s e i here flag told yes-flag p f b (ltb-false p (i * 64) t) l)
+-- word i, asked by the mask of its part of the run
+module _ (v : Bool) (words : List ℕ) (s n i : ℕ) (here : i * 64 < slotsIn words) (flag : Bool) (mask : ℕ) (told : flag ≡ maskHas v (getD words i 0) mask) (part : mask ≡ partMask s (s + n) i) where
+  in-mask : (p : ℕ) → p < 64 → digit mask p ≡ within s n (i * 64 + p)
+  unfolding partMask within
+  in-mask p l = ap (λ (m : ℕ). digit m p) part ∙ digit-number _ 64 p l
 
-pub run-not-used : (words : List ℕ) (s n i : ℕ) → i * 64 < slotsIn words → (flag : Bool) → flag ≡ usedIn (getD words i 0) (partMask s (s + n) i) → flag ≡ false
-    → false ≡ allUsed (slotIn words) s n
-run-not-used words s n i here flag told no-flag =
-    same-test false (allUsed (slotIn words) s n) (λ t. absurd t)
-    (λ t. word-not-used words s (s + n) i here flag told no-flag (λ p f b. finds-all-used (slotIn words) s n .0 t p (f, b)))
+  word-has-it : flag ≡ true → (p : ℕ) → Named s n p → i * 64 ≤ p → p < (i + 1) * 64 → slotIn words p ≡ v
+  word-has-it yes-flag p named l b =
+      seen words i p here l b
+      ∙ finds-mask v (getD words i 0) mask .0 (rw (sym told ∙ yes-flag) tt) (p - i * 64) (omega arith)
+      (in-mask (p - i * 64) (omega arith) ∙ within-named s n (i * 64 + (p - i * 64)) (omega (arith, named .0), omega (arith, named .1)))
+
+  pub has-on : flag ≡ true → HasTo v words s n i → HasTo v words s n (i + 1)
+  has-on yes-flag before p named b =
+      either (ltb p (i * 64)) (λ t. before p named (ltb-true p (i * 64) t)) (λ t. word-has-it yes-flag p named (ltb-false p (i * 64) t) b)
+
+  pub has-not : flag ≡ false → false ≡ runHas v (slotIn words) s n
+  has-not no-flag =
+      same-test false (runHas v (slotIn words) s n) (λ t. absurd t)
+      (λ t. rw (sym told ∙ no-flag) at (finds-mask v (getD words i 0) mask .1 (λ p l m.
+      sym (slot-in-word words i p here l) ∙ finds-run v (slotIn words) s n .0 t (i * 64 + p) (within-found s n (i * 64 + p) (sym (in-mask p l) ∙ m)))))
+
+  -- of the run's last word the answer is that of the whole run
+  pub has-last : s + n ≤ (i + 1) * 64 → HasTo v words s n i → flag ≡ runHas v (slotIn words) s n
+  has-last ends before =
+      either flag
+      (λ yes-flag. yes-flag ∙ has-all v words s n (i + 1) (has-on yes-flag before) (λ p named past. absurd (omega (arith, named .1))))
+      (λ no-flag. no-flag ∙ has-not no-flag)

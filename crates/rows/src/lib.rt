@@ -74,19 +74,30 @@ pub fn first_free(words: &[u64], from: usize) -> usize
     start
 }
 
-// Whether each of the n slots from `start` on is free, asked slot by slot; past the words, each is.
+// Whether each of the n slots from `start` on is free, asked word by word: the run's part of its first
+// word, then whole words, then what is left of it in its last. Past the words, each is.
 pub fn all_free(words: &[u64], start: usize, n: usize) -> bool
     ensures { λ r. ⌜ AllFreeSays (now (words .entry)) start n r ⌝ }
 {
-    let end = end_of(slots(words), start, n);
-    let mut slot = start;
-    while slot < end {
-        if (words[slot / 64] >> (slot % 64)) % 2 == 1 {
+    let held = slots(words);
+    if held <= start {
+        return true;
+    }
+    if !places::all_free(words[start / 64], places::run_mask(start % 64, n)) {
+        return false;
+    }
+    let end = end_of(held, start, n);
+    let mut i = start / 64 + 1;
+    while (i + 1) * 64 <= end {
+        if !places::all_free(words[i], places::run_mask(0, 64)) {
             return false;
         }
-        slot += 1;
+        i += 1;
     }
-    true
+    if end <= i * 64 {
+        return true;
+    }
+    places::all_free(words[i], places::run_mask(0, end - i * 64))
 }
 
 // Whether each of the n slots from `start` on is used, asked word by word; past the words, none is.

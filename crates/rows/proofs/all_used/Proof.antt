@@ -1,19 +1,18 @@
 -- `rows::all_used` meets its contract: before each word, the run's slots in the words before it are used. Assumes nothing.
-use mathlib.Core.Path.{sym, ap, _∙_}
-use Prim.Native.Nat.{_+_, _-_, _*_, _/_, _≤_, _<_}
+use mathlib.Core.Path.{sym}
+use mathlib.Core.Bool.{true}
+use Prim.Native.Nat.{_-_, _*_, _/_, _≤_, _<_}
 use native.Mathlib.Nat.{pos-of-ne-zero}
 use native.Mathlib.Omega.{arith}
-use lib.ListN.{getD}
 use borrow.Author.Needs.{needs}
 use borrow.Author.Tests.{not-true, not-false}
-use Rattle.places.specs.Places.{usedIn}
 use Rattle.views.specs.Painting.{slotsIn, slotIn, slots-most, slot-past, word-there}
-use Rattle.rows.proofs.Reasons.{UsedTo, used-none, used-on, run-not-used, run-free-at, run-all-used}
+use Rattle.rows.proofs.Reasons.{HasTo, has-none, has-on, has-not, has-all, run-has-not}
 use Rattle.rows.proofs.all_used.Statement.{statement}
 use Rattle.rows.proofs.all_used.Tie as tie
 
 abbrev Inv-loop : tie.InvT-loop
-Inv-loop words start n held end i₀ i = (start / 64 ≤ i) × (i ≤ 256) × UsedTo words start (start + n) i
+Inv-loop words start n held end i₀ i = (start / 64 ≤ i) × (i ≤ 256) × HasTo true words start n i
 
 abbrev μ-loop : tie.MeasureT-loop
 μ-loop words start n held end i₀ i = 256 - i
@@ -21,7 +20,7 @@ abbrev μ-loop : tie.MeasureT-loop
 returns : tie.Need-returns Inv-loop μ-loop
 returns c =
     let asked = c .before .before .args in
-    run-all-used (slotIn (asked .words .now)) (asked .start) (asked .n) (λ p l b. absurd (omega (arith, c .if1 .taken)))
+    has-all true (asked .words .now) (asked .start) (asked .n) 0 (λ p named b. absurd (omega arith)) (λ p named b. absurd (omega (arith, c .if1 .taken, named .0, named .1)))
 
 slots-requires : tie.Need-slots-requires Inv-loop μ-loop
 slots-requires c κs = search needs
@@ -31,7 +30,7 @@ returns-2 c =
     let known = c .before in
     let asked = known .before .before .before .args in
     let some : 0 < asked .n = pos-of-ne-zero (known .before .if1 .left) in
-    run-free-at (slotIn (asked .words .now)) (asked .start) (asked .n) (asked .start) (omega arith) (omega arith)
+    run-has-not true (slotIn (asked .words .now)) (asked .start) (asked .n) (asked .start) (omega arith, omega arith)
     (slot-past (asked .words .now) (asked .start) (rw (sym (known .slots .ensures)) (c .if2 .taken)))
 
 sub-if3 : tie.Need-sub-if3 Inv-loop μ-loop
@@ -42,7 +41,7 @@ returns-3 c =
     let known = c .before .before in
     let asked = known .before .before .before .args in
     let held = known .slots .result in
-    run-free-at (slotIn (asked .words .now)) (asked .start) (asked .n) held (omega arith) (omega arith)
+    run-has-not true (slotIn (asked .words .now)) (asked .start) (asked .n) held (omega arith, omega arith)
     (slot-past (asked .words .now) held (omega (arith, known .slots .ensures)))
 
 add-end : tie.Need-add-end Inv-loop μ-loop
@@ -52,7 +51,7 @@ loop-holds : tie.Need-loop-holds Inv-loop μ-loop
 loop-holds c =
     let known = c .before .before in
     let asked = known .before .before .before .args in
-    (omega arith, omega (arith, known .slots .ensures, slots-most (asked .words .now)), used-none (asked .words .now) (asked .start) (asked .start + asked .n))
+    (omega arith, omega (arith, known .slots .ensures, slots-most (asked .words .now)), has-none true (asked .words .now) (asked .start) (asked .n))
 
 mul-loop : tie.Need-mul-loop Inv-loop μ-loop
 mul-loop c = omega (arith, c .loop .inv .1)
@@ -84,8 +83,7 @@ returns-4 c =
     let test = masked .before .before in
     let at-head = test .before in
     let asked = at-head .before .before .before .before .before .before .args in
-    let told = tested .all-used .ensures ∙ ap (usedIn (getD (asked .words .now) (at-head .loop .i) 0)) (masked .part-mask .ensures) in
-    run-not-used (asked .words .now) (asked .start) (asked .n) (at-head .loop .i) (there test) _ told (not-true _ (c .if4 .taken))
+    has-not true (asked .words .now) (asked .start) (asked .n) (at-head .loop .i) (there test) _ _ (tested .all-used .ensures) (masked .part-mask .ensures) (not-true _ (c .if4 .taken))
 
 add-i : tie.Need-add-i Inv-loop μ-loop
 add-i c = omega (arith, c .before .before .before .before .before .loop .inv .1)
@@ -102,18 +100,18 @@ loop-again c =
     let test = masked .before .before in
     let at-head = test .before in
     let asked = at-head .before .before .before .before .before .before .args in
-    let inv = at-head .loop .inv in
-    let told = tested .all-used .ensures ∙ ap (usedIn (getD (asked .words .now) (at-head .loop .i) 0)) (masked .part-mask .ensures) in (
+    let inv = at-head .loop .inv in (
       omega (arith, inv .0),
       omega (arith, there test, slots-most (asked .words .now)),
-      used-on (asked .words .now) (asked .start) (asked .start + asked .n) (at-head .loop .i) (there test) _ told (not-false _ (c .if4 .left)) (inv .2),
+      has-on true (asked .words .now) (asked .start) (asked .n) (at-head .loop .i) (there test) _ _ (tested .all-used .ensures) (masked .part-mask .ensures) (not-false _ (c .if4 .left))
+          (inv .2),
     )
 
 returns-5 : tie.Need-returns-5 Inv-loop μ-loop
 returns-5 c =
     let at-head = c .before in
     let asked = at-head .before .before .before .before .before .before .args in
-    run-all-used (slotIn (asked .words .now)) (asked .start) (asked .n) (λ p l b. at-head .loop .inv .2 p l b (omega arith))
+    has-all true (asked .words .now) (asked .start) (asked .n) (at-head .loop .i) (at-head .loop .inv .2) (λ p named past. absurd (omega (arith, c .loop-test .left, named .1)))
 
 pub all-used-spec : {M : Type 1} → statement M
 all-used-spec =
