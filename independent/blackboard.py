@@ -1,6 +1,6 @@
 #!/usr/bin/env python3
-"""The blackboard's examples once more, worked out from the papers' sentences alone: document 01's, and for the third
-level those of request One.
+"""The blackboard's examples once more, worked out from the papers' sentences alone: document 01's, for the third level
+those of request One, and for jobs those of request Three.
 
 Nothing here is shared with the crates: no code, no table, no list of examples. Where the crates use
 masks, this counts: a power of two is found by trying exponents, a multiple by dividing whole numbers
@@ -155,6 +155,61 @@ class Map:
         return len(self.used)
 
 
+# what request Three says: a slot is free, running or reaped. A state of jobs has the set of its running slots and the set
+# of its reaped ones, which are both used, and a summary, which it may tell wrong. A stray slot is said to be reaped and
+# is not used. Start, reap and record give the state that they leave
+
+
+class Jobs:
+    size = 1024
+
+    def __init__(self, running=(), reaped=(), told=None, stray=()):
+        self.running, self.reaped, self.stray = set(running), set(reaped), set(stray)
+        self.told = summary(self.running | self.reaped, 64) if told is None else told
+
+    def sound(self):
+        refuse(1, self.stray or self.told != summary(self.running | self.reaped, 64))
+
+    def named(self, start, n):
+        self.sound()
+        refuse(2, n == 0)
+        refuse(4, start + n > self.size)
+        return set(range(start, start + n))
+
+    def start(self, n, a):
+        self.sound()
+        refuse(2, n == 0)
+        refuse(3, a >= 10)
+        refuse(4, n > self.size)
+        free = {slot for slot in range(self.size) if self.state(slot) == "free"}
+        fits = [start for start in free if start % 2**a == 0 and free.issuperset(range(start, start + n))]
+        refuse(7, fits == [])
+        return min(fits), Jobs(self.running | set(range(min(fits), min(fits) + n)), self.reaped)
+
+    def reap(self, start, n):
+        named = self.named(start, n)
+        refuse(13, any(self.state(slot) != "running" for slot in named))
+        return None, Jobs(self.running - named, self.reaped | named)
+
+    def record(self, start, n):
+        named = self.named(start, n)
+        refuse(14, any(self.state(slot) != "reaped" for slot in named))
+        return None, Jobs(self.running, self.reaped - named)
+
+    def state(self, slot):
+        self.sound()
+        refuse(4, slot >= self.size)
+        return "running" if slot in self.running else "reaped" if slot in self.reaped else "free"
+
+    def empty(self):
+        self.sound()
+        return not self.running and not self.reaped
+
+    def count(self):
+        self.sound()
+        return len(self.running) + len(self.reaped)
+
+
 # ---- the lines
 
 
@@ -264,6 +319,45 @@ def counts(name):
     line(f"{name}: capacity", lambda: MAPS[name].size)
 
 
+SIGNS = {"free": ".", "running": "#", "reaped": "r"}
+
+
+def in_runs(jobs):
+    return f"{runs(jobs.running | jobs.reaped)} under summary {jobs.told}, reaped{runs(jobs.reaped | jobs.stray)}"
+
+
+def in_row(jobs):
+    """The first 64 slots, each by the sign of its state."""
+    return " " + "".join(SIGNS[jobs.state(slot)] for slot in range(64))
+
+
+def worked(name, words, call, shown):
+    left = MAPS[name]
+    try:
+        start, left = call(left)
+        answer = "ok" if start is None else f"at {start}"
+    except Refused as refusal:
+        answer = f"refused {refusal}"
+    print(f"{name}: {words}: {answer}, leaves{shown(left)}")
+    return left
+
+
+def starts(name, n, a, shown=in_runs):
+    return worked(name, f"start {n} at a multiple of 2^{a}", lambda jobs: jobs.start(n, a), shown)
+
+
+def reaps(name, start, n, shown=in_runs):
+    return worked(name, f"reap from {start}, {n}", lambda jobs: jobs.reap(start, n), shown)
+
+
+def records(name, start, n, shown=in_runs):
+    return worked(name, f"record from {start}, {n}", lambda jobs: jobs.record(start, n), shown)
+
+
+def states(name, slot):
+    line(f"{name}: state of {slot}", lambda: MAPS[name].state(slot))
+
+
 TOP = 2**64 - 1
 EMPTY, FULL = "empty word", "full word"
 FIRST, THIRD, TENTH, LOW = "word with slot 0", "word with slot 2", "word with slot 10", "word with slots 0 to 62"
@@ -276,6 +370,13 @@ LARGE_ACROSS, LARGE_MOST = "third level with slots 1000 to 1099", "third level w
 ODD_TREE = "full third level, tree 15 under 32767"
 ODD_TOP, LOW_TOP = "empty third level under summary 1", "full third level under summary 32767"
 UNTOLD = "third level with slot 0, under no summary"
+IDLE, BUSY, ENDED = "empty jobs", "jobs with all slots running", "jobs with all slots reaped"
+ENDED_ONE, BUSY_MOST = "jobs with slot 0 reaped", "jobs with slots 0 to 1022 running"
+BUSY_ACROSS, ENDED_ACROSS = "jobs with slots 60 to 67 running", "jobs with slots 60 to 67 reaped"
+PARTLY = "jobs with slots 60 to 67, of which 62 to 65 reaped"
+IDLE_TOLD, BUSY_UNTOLD = "jobs with no slot under summary 1", "jobs with slot 0 running, under no summary"
+ENDED_HIDDEN = "jobs with all slots reaped under summary 32767"
+STRAY, STRAY_LAST = "jobs with slot 0 reaped and not used", "jobs with slots 0 to 1022 running, 1023 reaped and not used"
 MAPS = {
     EMPTY: Map(64),
     FULL: Map(64, range(64)),
@@ -300,6 +401,19 @@ MAPS = {
     ODD_TOP: Map(16384, (), [1] + 16 * [0]),
     LOW_TOP: Map(16384, range(16384), [32767] + 16 * [65535]),
     UNTOLD: Map(16384, {0}, [0] + 16 * [0]),
+    IDLE: Jobs(),
+    BUSY: Jobs(range(1024)),
+    ENDED: Jobs((), range(1024)),
+    ENDED_ONE: Jobs((), {0}),
+    BUSY_MOST: Jobs(range(1023)),
+    BUSY_ACROSS: Jobs(range(60, 68)),
+    ENDED_ACROSS: Jobs((), range(60, 68)),
+    PARTLY: Jobs({60, 61, 66, 67}, range(62, 66)),
+    IDLE_TOLD: Jobs(told=1),
+    BUSY_UNTOLD: Jobs({0}, told=0),
+    ENDED_HIDDEN: Jobs((), range(1024), told=32767),
+    STRAY: Jobs(stray={0}),
+    STRAY_LAST: Jobs(range(1023), stray={1023}),
 }
 
 # the paper's own
@@ -479,7 +593,58 @@ for name in (ODD_TREE, ODD_TOP, LOW_TOP, UNTOLD):
     gets(name, 16384)
     counts(name)
 
-# the lesson's stories: each call on the map that the one before left
+# the states of jobs
+for n, a in ((1024, 9), (1025, 9), (1025, 10), (0, 10), (1, 10), (TOP, 0), (1, TOP)):
+    starts(IDLE, n, a)
+starts(BUSY, 1, 0)
+starts(ENDED, 1, 0)
+for n, a in ((1, 0), (1, 9), (1023, 0), (1024, 0)):
+    starts(ENDED_ONE, n, a)
+starts(BUSY_MOST, 1, 0)
+starts(BUSY_MOST, 1, 1)
+for n, a in ((60, 0), (61, 0), (61, 6), (956, 0), (957, 0)):
+    starts(PARTLY, n, a)
+PAST = ((0, 0), (1025, 0), (1023, 2), (1024, 1), (TOP, 2), (0, 1), (0, 1024))
+WHOLE = ((0, 1024), (0, 1025), (1023, 1), (1023, 2), (64, 64), (1, TOP))
+for start, n in PAST:
+    reaps(IDLE, start, n)
+for start, n in WHOLE:
+    reaps(BUSY, start, n)
+reaps(ENDED, 0, 1024)
+for start, n in ((60, 8), (62, 4), (59, 9), (60, 9)):
+    reaps(BUSY_ACROSS, start, n)
+for start, n in ((60, 2), (60, 3), (66, 2), (65, 3), (62, 4), (60, 8)):
+    reaps(PARTLY, start, n)
+for start, n in PAST:
+    records(IDLE, start, n)
+for start, n in WHOLE:
+    records(ENDED, start, n)
+records(BUSY, 0, 1024)
+for start, n in ((60, 8), (64, 4), (59, 9), (60, 9)):
+    records(ENDED_ACROSS, start, n)
+for start, n in ((62, 4), (63, 2), (61, 5), (62, 5), (60, 2), (60, 8)):
+    records(PARTLY, start, n)
+for slot in (0, 1023, 1024, TOP):
+    states(IDLE, slot)
+for slot in (59, 61, 62, 65, 66, 68):
+    states(PARTLY, slot)
+states(BUSY, 1023)
+states(ENDED, 1023)
+for name in (IDLE, BUSY, ENDED, PARTLY):
+    counts(name)
+
+# states that are not sound: by the summary, or by a slot that is reaped and not used
+for name in (IDLE_TOLD, BUSY_UNTOLD, ENDED_HIDDEN, STRAY, STRAY_LAST):
+    starts(name, 0, 10)
+    starts(name, 1, 0)
+    for call in (reaps, records):
+        for start, n in ((0, 0), (TOP, 2), (0, 1)):
+            call(name, start, n)
+    states(name, 0)
+    states(name, 1024)
+    counts(name)
+
+# the lesson's stories: each call on the map or the state that the one before left
 
 
 def story(name, used, *calls):
@@ -518,5 +683,28 @@ class Freeing:
 
 story("a second free", (), Taking(4, 2), Freeing(0, 4), Freeing(0, 4), Taking(4, 2), Freeing(0, 4))
 story("a free of no entries", range(6), Freeing(0, 0))
+story("a free at reaping", (), Taking(4, 2), Freeing(0, 4), Taking(4, 2))
+
+
+def day(name, *calls):
+    MAPS[name] = Jobs()
+    print(f"{name}: at first, leaves{in_row(MAPS[name])}")
+    for call, *numbers in calls:
+        MAPS[name] = call(name, *numbers, in_row)
+
+
+day("the same day with jobs", (starts, 4, 2), (reaps, 0, 4), (starts, 4, 2), (records, 0, 4), (starts, 4, 2))
+day(
+    "the shortcuts",
+    (starts, 4, 2),
+    (records, 0, 4),
+    (reaps, 0, 4),
+    (reaps, 0, 4),
+    (records, 0, 4),
+    (records, 0, 4),
+    (starts, 4, 2),
+    (records, 0, 4),
+    (reaps, 0, 4),
+)
 story("free, then take", {0}, Freeing(0, 1), Taking(1, 0))
 story("take, then free", {0}, Taking(1, 0), Freeing(0, 1))

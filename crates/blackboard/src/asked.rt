@@ -1,10 +1,18 @@
-// What is asked of a map of any size: the map by its name, the call and its numbers. The answer follows on the same line.
+// What is asked of a map of any size, or of a state of jobs: its name, the call and its numbers. The answer follows on the same line.
 use crate::names;
 use crate::show;
 
+// How many slots a run has, and what its start is a multiple of.
+pub fn run(n: usize, a: usize) {
+    show::number(n as u64);
+    show::text(b" at a multiple of 2^");
+    show::number(a as u64);
+}
+
 pub fn take(name: u8, n: usize, a: usize) {
     names::put(name);
-    show::asked(b": take ", n as u64, b" at a multiple of 2^", a as u64);
+    show::text(b": take ");
+    run(n, a);
 }
 
 // The slot from which a range goes on, and how many it has.
@@ -61,4 +69,30 @@ pub fn used(name: u8) {
 pub fn capacity(name: u8) {
     names::put(name);
     show::text(b": capacity");
+}
+
+// ---- of a state of jobs alone
+
+pub fn start(name: u8, n: usize, a: usize) {
+    names::put(name);
+    show::text(b": start ");
+    run(n, a);
+}
+
+pub fn reap(name: u8, start: usize, n: usize) {
+    names::put(name);
+    show::text(b": reap from ");
+    range(start, n);
+}
+
+pub fn record(name: u8, start: usize, n: usize) {
+    names::put(name);
+    show::text(b": record from ");
+    range(start, n);
+}
+
+pub fn state(name: u8, slot: usize) {
+    names::put(name);
+    show::text(b": state of ");
+    show::number(slot as u64);
 }

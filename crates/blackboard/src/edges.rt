@@ -2,9 +2,11 @@
 // those where a wrap or a shift by 64 would show.
 use crate::names;
 use crate::show;
+use crate::states;
 use crate::thirds;
 use crate::trees;
 use crate::words;
+use jobs::Jobs;
 use third::Third;
 use tree::Tree;
 use word::Word;
@@ -431,5 +433,187 @@ pub fn unsound_thirds() {
     unsound_third(
         names::THIRD_WITH_SLOT_0_UNDER_NO_SUMMARY,
         third_with(0, 1).with_summaries(none, 0),
+    );
+}
+
+// ---- the states of jobs
+
+// The state with these slots running.
+fn running(start: usize, n: usize) -> Jobs {
+    Jobs::holding(tree_with(start, n), [0; 16])
+}
+
+// The state with these slots reaped.
+fn reaped(start: usize, n: usize) -> Jobs {
+    let tree = tree_with(start, n);
+    Jobs::holding(tree, tree.words())
+}
+
+// Four reaped slots within a run of eight, over the end of a word.
+fn partly_reaped() -> Jobs {
+    Jobs::holding(tree_with(60, 8), tree_with(62, 4).words())
+}
+
+pub fn job_starts() {
+    let empty = Jobs::new_empty();
+    states::start(names::EMPTY_JOBS, empty, 1024, 9);
+    states::start(names::EMPTY_JOBS, empty, 1025, 9);
+    states::start(names::EMPTY_JOBS, empty, 1025, 10);
+    states::start(names::EMPTY_JOBS, empty, 0, 10);
+    states::start(names::EMPTY_JOBS, empty, 1, 10);
+    states::start(names::EMPTY_JOBS, empty, 18446744073709551615, 0);
+    states::start(names::EMPTY_JOBS, empty, 1, 18446744073709551615);
+    states::start(names::JOBS_ALL_RUNNING, running(0, 1024), 1, 0);
+    states::start(names::JOBS_ALL_REAPED, reaped(0, 1024), 1, 0);
+}
+
+// A reaped slot is passed over as a running one is.
+pub fn job_starts_around() {
+    let first = reaped(0, 1);
+    states::start(names::JOBS_WITH_SLOT_0_REAPED, first, 1, 0);
+    states::start(names::JOBS_WITH_SLOT_0_REAPED, first, 1, 9);
+    states::start(names::JOBS_WITH_SLOT_0_REAPED, first, 1023, 0);
+    states::start(names::JOBS_WITH_SLOT_0_REAPED, first, 1024, 0);
+    let most = running(0, 1023);
+    states::start(names::JOBS_WITH_SLOTS_0_TO_1022_RUNNING, most, 1, 0);
+    states::start(names::JOBS_WITH_SLOTS_0_TO_1022_RUNNING, most, 1, 1);
+    let partly = partly_reaped();
+    let name = names::JOBS_WITH_SLOTS_60_TO_67_OF_WHICH_62_TO_65_REAPED;
+    states::start(name, partly, 60, 0);
+    states::start(name, partly, 61, 0);
+    states::start(name, partly, 61, 6);
+    states::start(name, partly, 956, 0);
+    states::start(name, partly, 957, 0);
+}
+
+pub fn reaps() {
+    let empty = Jobs::new_empty();
+    let all = running(0, 1024);
+    states::reap(names::EMPTY_JOBS, empty, 0, 0);
+    states::reap(names::EMPTY_JOBS, empty, 1025, 0);
+    states::reap(names::EMPTY_JOBS, empty, 1023, 2);
+    states::reap(names::EMPTY_JOBS, empty, 1024, 1);
+    states::reap(names::EMPTY_JOBS, empty, 18446744073709551615, 2);
+    states::reap(names::EMPTY_JOBS, empty, 0, 1);
+    states::reap(names::EMPTY_JOBS, empty, 0, 1024);
+    states::reap(names::JOBS_ALL_RUNNING, all, 0, 1024);
+    states::reap(names::JOBS_ALL_RUNNING, all, 0, 1025);
+    states::reap(names::JOBS_ALL_RUNNING, all, 1023, 1);
+    states::reap(names::JOBS_ALL_RUNNING, all, 1023, 2);
+    states::reap(names::JOBS_ALL_RUNNING, all, 64, 64);
+    states::reap(names::JOBS_ALL_RUNNING, all, 1, 18446744073709551615);
+    states::reap(names::JOBS_ALL_REAPED, reaped(0, 1024), 0, 1024);
+}
+
+pub fn reaps_across() {
+    let across = running(60, 8);
+    states::reap(names::JOBS_WITH_SLOTS_60_TO_67_RUNNING, across, 60, 8);
+    states::reap(names::JOBS_WITH_SLOTS_60_TO_67_RUNNING, across, 62, 4);
+    states::reap(names::JOBS_WITH_SLOTS_60_TO_67_RUNNING, across, 59, 9);
+    states::reap(names::JOBS_WITH_SLOTS_60_TO_67_RUNNING, across, 60, 9);
+    let partly = partly_reaped();
+    let name = names::JOBS_WITH_SLOTS_60_TO_67_OF_WHICH_62_TO_65_REAPED;
+    states::reap(name, partly, 60, 2);
+    states::reap(name, partly, 60, 3);
+    states::reap(name, partly, 66, 2);
+    states::reap(name, partly, 65, 3);
+    states::reap(name, partly, 62, 4);
+    states::reap(name, partly, 60, 8);
+}
+
+pub fn records() {
+    let empty = Jobs::new_empty();
+    let all = reaped(0, 1024);
+    states::record(names::EMPTY_JOBS, empty, 0, 0);
+    states::record(names::EMPTY_JOBS, empty, 1025, 0);
+    states::record(names::EMPTY_JOBS, empty, 1023, 2);
+    states::record(names::EMPTY_JOBS, empty, 1024, 1);
+    states::record(names::EMPTY_JOBS, empty, 18446744073709551615, 2);
+    states::record(names::EMPTY_JOBS, empty, 0, 1);
+    states::record(names::EMPTY_JOBS, empty, 0, 1024);
+    states::record(names::JOBS_ALL_REAPED, all, 0, 1024);
+    states::record(names::JOBS_ALL_REAPED, all, 0, 1025);
+    states::record(names::JOBS_ALL_REAPED, all, 1023, 1);
+    states::record(names::JOBS_ALL_REAPED, all, 1023, 2);
+    states::record(names::JOBS_ALL_REAPED, all, 64, 64);
+    states::record(names::JOBS_ALL_REAPED, all, 1, 18446744073709551615);
+    states::record(names::JOBS_ALL_RUNNING, running(0, 1024), 0, 1024);
+}
+
+pub fn records_across() {
+    let across = reaped(60, 8);
+    states::record(names::JOBS_WITH_SLOTS_60_TO_67_REAPED, across, 60, 8);
+    states::record(names::JOBS_WITH_SLOTS_60_TO_67_REAPED, across, 64, 4);
+    states::record(names::JOBS_WITH_SLOTS_60_TO_67_REAPED, across, 59, 9);
+    states::record(names::JOBS_WITH_SLOTS_60_TO_67_REAPED, across, 60, 9);
+    let partly = partly_reaped();
+    let name = names::JOBS_WITH_SLOTS_60_TO_67_OF_WHICH_62_TO_65_REAPED;
+    states::record(name, partly, 62, 4);
+    states::record(name, partly, 63, 2);
+    states::record(name, partly, 61, 5);
+    states::record(name, partly, 62, 5);
+    states::record(name, partly, 60, 2);
+    states::record(name, partly, 60, 8);
+}
+
+pub fn job_questions() {
+    let empty = Jobs::new_empty();
+    let partly = partly_reaped();
+    let name = names::JOBS_WITH_SLOTS_60_TO_67_OF_WHICH_62_TO_65_REAPED;
+    states::slot(names::EMPTY_JOBS, empty, 0);
+    states::slot(names::EMPTY_JOBS, empty, 1023);
+    states::slot(names::EMPTY_JOBS, empty, 1024);
+    states::slot(names::EMPTY_JOBS, empty, 18446744073709551615);
+    states::slot(name, partly, 59);
+    states::slot(name, partly, 61);
+    states::slot(name, partly, 62);
+    states::slot(name, partly, 65);
+    states::slot(name, partly, 66);
+    states::slot(name, partly, 68);
+    states::slot(names::JOBS_ALL_RUNNING, running(0, 1024), 1023);
+    states::slot(names::JOBS_ALL_REAPED, reaped(0, 1024), 1023);
+    states::counts(names::EMPTY_JOBS, empty);
+    states::counts(names::JOBS_ALL_RUNNING, running(0, 1024));
+    states::counts(names::JOBS_ALL_REAPED, reaped(0, 1024));
+    states::counts(name, partly);
+}
+
+// Every call but capacity refuses a state that is not sound, before all else.
+fn unsound_state(name: u8, bad: Jobs) {
+    states::start(name, bad, 0, 10);
+    states::start(name, bad, 1, 0);
+    states::reap(name, bad, 0, 0);
+    states::reap(name, bad, 18446744073709551615, 2);
+    states::reap(name, bad, 0, 1);
+    states::record(name, bad, 0, 0);
+    states::record(name, bad, 18446744073709551615, 2);
+    states::record(name, bad, 0, 1);
+    states::slot(name, bad, 0);
+    states::slot(name, bad, 1024);
+    states::counts(name, bad);
+}
+
+// By the summary, with a bit too many and with one too few; and by the first slot and by the last, reaped and not used.
+pub fn unsound_jobs() {
+    let none = [0; 16];
+    unsound_state(
+        names::JOBS_WITH_NO_SLOT_UNDER_SUMMARY_1,
+        Jobs::holding(Tree::new_empty().with_summary(1), none),
+    );
+    unsound_state(
+        names::JOBS_WITH_SLOT_0_RUNNING_UNDER_NO_SUMMARY,
+        Jobs::holding(tree_with(0, 1).with_summary(0), none),
+    );
+    unsound_state(
+        names::JOBS_ALL_REAPED_UNDER_SUMMARY_32767,
+        Jobs::holding(Tree::new_full().with_summary(32767), [u64::MAX; 16]),
+    );
+    unsound_state(
+        names::JOBS_WITH_SLOT_0_REAPED_AND_NOT_USED,
+        Jobs::holding(Tree::new_empty(), tree_with(0, 1).words()),
+    );
+    unsound_state(
+        names::JOBS_WITH_SLOT_1023_REAPED_AND_NOT_USED,
+        Jobs::holding(tree_with(0, 1023), tree_with(1023, 1).words()),
     );
 }

@@ -1,7 +1,9 @@
-// The stories of docs/LESSON.md, each call on the map that the one before left. The lesson's pictures
+// The stories of docs/LESSON.md, each call on the map or the state that the one before left. The lesson's pictures
 // are made of these lines.
 use crate::names;
+use crate::states;
 use crate::words;
+use jobs::Jobs;
 use word::Word;
 
 // Slots that are freed twice: at once, and after another has taken them again.
@@ -25,6 +27,46 @@ pub fn free_of_none() {
     let first = Word::new_empty().claim(0, 6).map;
     words::at_first(name, first);
     words::free(name, first, 0, 0);
+}
+
+// Slots that are freed when their job is reaped, and taken again before its status is recorded.
+pub fn free_at_reaping() {
+    let name = names::A_FREE_AT_REAPING;
+    let first = Word::new_empty();
+    words::at_first(name, first);
+    words::take(name, first, 4, 2);
+    let taken = first.take(4, 2).map;
+    words::free(name, taken, 0, 4);
+    let freed = taken.free(0, 4).map;
+    words::take(name, freed, 4, 2);
+}
+
+// The same groups where a reaped slot is not free.
+pub fn same_day_with_jobs() {
+    let name = names::THE_SAME_DAY_WITH_JOBS;
+    let mut jobs = Jobs::new_empty();
+    states::at_first(name, jobs);
+    jobs = states::started(name, jobs, 4, 2);
+    jobs = states::reaped(name, jobs, 0, 4);
+    jobs = states::started(name, jobs, 4, 2);
+    jobs = states::recorded(name, jobs, 0, 4);
+    states::started(name, jobs, 4, 2);
+}
+
+// Recording before reaping, reaping twice, recording twice; and then late calls, when another group has the slots.
+pub fn shortcuts() {
+    let name = names::THE_SHORTCUTS;
+    let mut jobs = Jobs::new_empty();
+    states::at_first(name, jobs);
+    jobs = states::started(name, jobs, 4, 2);
+    jobs = states::recorded(name, jobs, 0, 4);
+    jobs = states::reaped(name, jobs, 0, 4);
+    jobs = states::reaped(name, jobs, 0, 4);
+    jobs = states::recorded(name, jobs, 0, 4);
+    jobs = states::recorded(name, jobs, 0, 4);
+    jobs = states::started(name, jobs, 4, 2);
+    jobs = states::recorded(name, jobs, 0, 4);
+    states::reaped(name, jobs, 0, 4);
 }
 
 // The same two calls in two orders.

@@ -6,6 +6,7 @@ mod lesson;
 mod names;
 mod runs;
 mod show;
+mod states;
 mod thirds;
 mod trees;
 mod words;
@@ -41,8 +42,19 @@ fn main() {
     edges::third_sets();
     edges::third_questions();
     edges::unsound_thirds();
+    edges::job_starts();
+    edges::job_starts_around();
+    edges::reaps();
+    edges::reaps_across();
+    edges::records();
+    edges::records_across();
+    edges::job_questions();
+    edges::unsound_jobs();
     lesson::second_free();
     lesson::free_of_none();
+    lesson::free_at_reaping();
+    lesson::same_day_with_jobs();
+    lesson::shortcuts();
     lesson::moved_take();
 }
 

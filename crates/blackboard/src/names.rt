@@ -1,4 +1,4 @@
-// What a line begins with: the map that a call is made on, or the story of the lesson that it belongs to. Each
+// What a line begins with: the map or the state that a call is made on, or the story of the lesson that it belongs to. Each
 // has a number, and a call hands on the number: words that are lent to a call are slow to prove. So all of them are
 // lent at once, a line each.
 use crate::show;
@@ -49,13 +49,45 @@ pub const FULL_THIRD_UNDER_SUMMARY_32767: u8 = 21;
 
 pub const THIRD_WITH_SLOT_0_UNDER_NO_SUMMARY: u8 = 22;
 
-pub const A_SECOND_FREE: u8 = 23;
+pub const EMPTY_JOBS: u8 = 23;
 
-pub const A_FREE_OF_NO_ENTRIES: u8 = 24;
+pub const JOBS_ALL_RUNNING: u8 = 24;
 
-pub const FREE_THEN_TAKE: u8 = 25;
+pub const JOBS_ALL_REAPED: u8 = 25;
 
-pub const TAKE_THEN_FREE: u8 = 26;
+pub const JOBS_WITH_SLOT_0_REAPED: u8 = 26;
+
+pub const JOBS_WITH_SLOTS_0_TO_1022_RUNNING: u8 = 27;
+
+pub const JOBS_WITH_SLOTS_60_TO_67_RUNNING: u8 = 28;
+
+pub const JOBS_WITH_SLOTS_60_TO_67_REAPED: u8 = 29;
+
+pub const JOBS_WITH_SLOTS_60_TO_67_OF_WHICH_62_TO_65_REAPED: u8 = 30;
+
+pub const JOBS_WITH_NO_SLOT_UNDER_SUMMARY_1: u8 = 31;
+
+pub const JOBS_WITH_SLOT_0_RUNNING_UNDER_NO_SUMMARY: u8 = 32;
+
+pub const JOBS_ALL_REAPED_UNDER_SUMMARY_32767: u8 = 33;
+
+pub const JOBS_WITH_SLOT_0_REAPED_AND_NOT_USED: u8 = 34;
+
+pub const JOBS_WITH_SLOT_1023_REAPED_AND_NOT_USED: u8 = 35;
+
+pub const A_SECOND_FREE: u8 = 36;
+
+pub const A_FREE_OF_NO_ENTRIES: u8 = 37;
+
+pub const A_FREE_AT_REAPING: u8 = 38;
+
+pub const THE_SAME_DAY_WITH_JOBS: u8 = 39;
+
+pub const THE_SHORTCUTS: u8 = 40;
+
+pub const FREE_THEN_TAKE: u8 = 41;
+
+pub const TAKE_THEN_FREE: u8 = 42;
 
 // Prints the words of a number, which are that line of these; one that has none prints nothing.
 pub fn put(k: u8) {
@@ -83,8 +115,24 @@ full third level, tree 15 under 32767
 empty third level under summary 1
 full third level under summary 32767
 third level with slot 0, under no summary
+empty jobs
+jobs with all slots running
+jobs with all slots reaped
+jobs with slot 0 reaped
+jobs with slots 0 to 1022 running
+jobs with slots 60 to 67 running
+jobs with slots 60 to 67 reaped
+jobs with slots 60 to 67, of which 62 to 65 reaped
+jobs with no slot under summary 1
+jobs with slot 0 running, under no summary
+jobs with all slots reaped under summary 32767
+jobs with slot 0 reaped and not used
+jobs with slots 0 to 1022 running, 1023 reaped and not used
 a second free
 a free of no entries
+a free at reaping
+the same day with jobs
+the shortcuts
 free, then take
 take, then free
 ",

@@ -1,7 +1,6 @@
 // What a call leaves of a map that has a summary: the runs of used slots, first and last slot of each, and the
-// summary. The same for a tree and for the third level.
+// summary. The same for a tree, for the third level and for a state of jobs, whose reaped slots are said as runs too.
 use crate::show;
-use answers::Answer;
 
 // One slot further: where a run of used slots begins or ends, that is printed. Answers whether the
 // slot is used; `last` is the slot before it, and `inside` whether that one is.
@@ -20,7 +19,7 @@ fn edge(slot: usize, last: usize, inside: bool, used: bool) -> bool {
     false
 }
 
-// The runs; none is said as such. After the last slot a run ends.
+// The runs, beginning and end of each. After the last slot a run ends.
 fn put(words: &[u64], slots: usize) {
     let mut slot = 0;
     let mut last = 0;
@@ -34,14 +33,18 @@ fn put(words: &[u64], slots: usize) {
     edge(slot, last, inside, false);
 }
 
-// The answer, and what is left: the slots of these words, so many in all, under the summary.
-pub fn left(answer: Answer, words: &[u64], slots: usize, summary: u16) {
-    show::answer(answer);
-    show::text(b", leaves");
+// The runs of slots that these words hold, so many slots in all; none is said as such.
+pub fn held(words: &[u64], slots: usize) {
     if rows::count(words) == 0 {
         show::text(b" none");
     }
     put(words, slots);
+}
+
+// What is left: the slots of these words, so many in all, under the summary.
+pub fn left(words: &[u64], slots: usize, summary: u16) {
+    show::text(b", leaves");
+    held(words, slots);
     show::text(b" under summary ");
     show::number(summary as u64);
 }

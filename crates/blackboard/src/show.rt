@@ -39,9 +39,14 @@ pub fn value(n: u64) {
     text(b"\n");
 }
 
-pub fn refusal(r: Refusal) {
+// A refusal by its number.
+pub fn refused(why: u8) {
     text(b": refused ");
-    number(r.number() as u64);
+    number(why as u64);
+}
+
+pub fn refusal(r: Refusal) {
+    refused(r.number());
     text(b"\n");
 }
 
@@ -198,17 +203,17 @@ pub fn clear(start: usize, end: usize) {
 
 // ---- the answers of a map
 
+// Where a run was granted.
+pub fn at(start: usize) {
+    text(b": at ");
+    number(start as u64);
+}
+
 pub fn answer(answer: Answer) {
     match answer {
-        Answer::At(start) => {
-            text(b": at ");
-            number(start as u64);
-        }
+        Answer::At(start) => at(start),
         Answer::Done => text(b": ok"),
-        Answer::Refused(r) => {
-            text(b": refused ");
-            number(r.number() as u64);
-        }
+        Answer::Refused(r) => refused(r.number()),
     }
 }
 

@@ -35,7 +35,8 @@ fn left(changed: Changed) {
     let answer = changed.answer;
     let map = changed.map;
     let words = map.words();
-    runs::left(answer, &words, 16384, map.summary());
+    show::answer(answer);
+    runs::left(&words, 16384, map.summary());
     groups(map.summaries());
     show::text(b"\n");
 }

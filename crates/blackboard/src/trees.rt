@@ -11,7 +11,8 @@ fn left(changed: Changed) {
     let answer = changed.answer;
     let map = changed.map;
     let words = map.words();
-    runs::left(answer, &words, 1024, map.summary());
+    show::answer(answer);
+    runs::left(&words, 1024, map.summary());
     show::text(b"\n");
 }
 
@@ -22,12 +23,8 @@ pub fn take(name: u8, map: Tree, n: usize, a: usize) {
 
 pub fn take_in_place(name: u8, map: Tree, n: usize, a: usize) {
     names::put(name);
-    show::asked(
-        b": take in place ",
-        n as u64,
-        b" at a multiple of 2^",
-        a as u64,
-    );
+    show::text(b": take in place ");
+    asked::run(n, a);
     left(in_place::take_in_copy(map, n, a));
 }
 

@@ -3,7 +3,7 @@ use mathlib.Core.Path.{_≡_, refl, sym, ap, _∙_}
 use mathlib.Core.Bool.{Bool, true, false, not}
 use Prim.Native.Nat.{ℕ}
 use borrow.Author.Tests.{not-true, not-false}
-use Rattle.answers.specs.Said.{value, refused, judged-checked}
+use Rattle.answers.specs.Said.{value, refused}
 use Rattle.answers.specs.Refusals.{numberOf}
 use Rattle.answers.specs.Answers.{Reply, at, ok, answerSays, leftBy}
 use Rattle.answers.specs.declared.Answer.{Answer}
@@ -12,7 +12,7 @@ use Rattle.slots.specs.Sets.{Slots, painted}
 use Rattle.slots.specs.Kinds.{Kind, State, plain}
 use Rattle.slots.specs.Calls.{Call, says, takeCall}
 use Rattle.slots.specs.Promises.{take-after}
-use Rattle.slots.specs.View.{View, answered, changed, found-unsound, found-sound, says-refused, says-accepted}
+use Rattle.slots.specs.View.{View, answered, changed, accepted-sound, found-unsound, found-sound, says-refused, says-accepted}
 
 -- ---- check 1, by the flag of a branch on `!flag`
 
@@ -23,11 +23,6 @@ module _ {K : Kind} (L : View K) {X A : Type 0} (m : L .Map) (call : Call X A) w
 
     pub shown-sound : not flag ≡ false → answered L m call ≡ says call
     shown-sound e = found-sound L m call (sym told ∙ not-false flag e)
-
-  -- where something is said that is no refusal, the map is sound
-  pub accepted-sound : (a : A) → answered L m call ≡ value a → L .isSound m ≡ true
-  unfolding answered
-  accepted-sound a said = not-false _ (judged-checked 1 _ (call .checks) (call .answer) a said .0)
 
 -- ---- a judged call, carried out, is as its contract has it
 

@@ -7,7 +7,7 @@ use mathlib.Core.List.{List, [], _∷_, map, Perm}
 use Prim.Native.Nat.{ℕ, _^_, _≤_, _<_}
 use lib.Dec.{T}
 use Rattle.answers.specs.Said.{Said, value, refused}
-use Rattle.answers.specs.Faults.{Fault, _if_, FaultsDecide}
+use Rattle.answers.specs.Faults.{Fault, FaultsDecide}
 use Rattle.answers.specs.Answers.{Reply, at, ok}
 use Rattle.bits.specs.Range.{count}
 use Rattle.slots.specs.Sets.{Slots, Named, painted, painted-named, painted-other, AllFree, AllUsed}
@@ -17,7 +17,9 @@ use Rattle.slots.specs.Calls.{Call, says, leaves, takeCall, claimCall, f
 use Rattle.slots.specs.Promises as Promises
 use Rattle.slots.specs.Promises.{InRange, RefusedBy, takeFaults, claimFaults, freeFaults, setFaults, nextFreeFaults, getFaults}
 use Rattle.slots.specs.Records.{Entry}
-use Rattle.slots.specs.View.{View, answered, changed, changed-says, changed-refused, changed-sound, changed-map, answered-decided, sound-answers, sound-changes}
+use Rattle.slots.specs.View.{View, answered, answered-decided, sound-answers}
+use Rattle.slots.specs.Outcome as Outcome
+use Rattle.slots.specs.Outcome.{unsound}
 use Rattle.slots.specs.Plain.{Asked, plainCalls}
 use Rattle.slots.specs.Series as Series
 use Rattle.slots.specs.Series.{AllDone, forward, backward}
@@ -25,7 +27,7 @@ use Rattle.slots.specs.Series.{AllDone, forward, backward}
 module _ (L : View plain) (Out : Type 0) (said : Out → Said Reply) (left : Out → L .Map) where
   -- an outcome of a call says and leaves what the call does
   abbrev pub Leaves : L .Map → Call Slots Reply → Out → Type 0
-  Leaves m c r = _≡_ {A = Said Reply × L .Map} (said r, left r) (changed L m c)
+  Leaves = Outcome.Leaves L Out said left
 
   abbrev pub TakeSays : L .Map → ℕ → ℕ → Out → Type 0
   TakeSays m n a r = Leaves m (takeCall (L .k) (L .stateOf m) n a) r
@@ -52,10 +54,6 @@ module _ (L : View plain) (Out : Type 0) (said : Out → Said Reply) (left : Out
   abbrev pub UsedSays : L .Map → Said ℕ → Type 0
   UsedSays m x = x ≡ answered L m (usedCall (L .k) (L .stateOf m))
 
-  -- the fault that stands in front of every list
-  abbrev pub unsound : L .Map → Fault
-  unsound m = 1 if (L .Sound m → ⊥)
-
   -- the outcome's map is that of the painted set: slot by slot, the named ones have the value, and the others are as they were
   pub record Painted (m : L .Map) (s n : ℕ) (v : Bool) (r : Out) : Type 0 where
     pub made-of : left r ≡ L .ofState (painted (L .stateOf m) s n v)
@@ -79,15 +77,15 @@ module _ (L : View plain) (Out : Type 0) (said : Out → Said Reply) (left : Out
   pub record OfAny (m : L .Map) : Type 0 where
     -- demand 1: a call is refused by the least number whose fault holds, and accepted exactly when none does
     pub take-decided : (n a : ℕ) (r : Out) → TakeSays m n a r
-        → FaultsDecide (said r) (at (lowest (L .k) (L .stateOf m) n a)) (unsound m ∷ takeFaults (L .k) (L .stateOf m) n a)
-    pub claim-decided : (s n : ℕ) (r : Out) → ClaimSays m s n r → FaultsDecide (said r) ok (unsound m ∷ claimFaults (L .k) (L .stateOf m) s n)
-    pub free-decided : (s n : ℕ) (r : Out) → FreeSays m s n r → FaultsDecide (said r) ok (unsound m ∷ freeFaults (L .k) (L .stateOf m) s n)
-    pub set-decided : (s n : ℕ) (v : Bool) (r : Out) → SetSays m s n v r → FaultsDecide (said r) ok (unsound m ∷ setFaults (L .k) s n)
+        → FaultsDecide (said r) (at (lowest (L .k) (L .stateOf m) n a)) (unsound L m ∷ takeFaults (L .k) (L .stateOf m) n a)
+    pub claim-decided : (s n : ℕ) (r : Out) → ClaimSays m s n r → FaultsDecide (said r) ok (unsound L m ∷ claimFaults (L .k) (L .stateOf m) s n)
+    pub free-decided : (s n : ℕ) (r : Out) → FreeSays m s n r → FaultsDecide (said r) ok (unsound L m ∷ freeFaults (L .k) (L .stateOf m) s n)
+    pub set-decided : (s n : ℕ) (v : Bool) (r : Out) → SetSays m s n v r → FaultsDecide (said r) ok (unsound L m ∷ setFaults (L .k) s n)
     pub next-free-decided : (s : ℕ) (x : Said ℕ) → NextFreeSays m s x
-        → FaultsDecide x (freeFrom (L .k) (L .stateOf m) s) (unsound m ∷ nextFreeFaults (L .k) (L .stateOf m) s)
-    pub get-decided : (i : ℕ) (x : Said Bool) → GetSays m i x → FaultsDecide x (L .stateOf m i) (unsound m ∷ getFaults (L .k) i)
-    pub empty-decided : (x : Said Bool) → EmptySays m x → FaultsDecide x (emptyCall (L .k) (L .stateOf m) .answer) (unsound m ∷ [])
-    pub used-decided : (x : Said ℕ) → UsedSays m x → FaultsDecide x (usedCall (L .k) (L .stateOf m) .answer) (unsound m ∷ [])
+        → FaultsDecide x (freeFrom (L .k) (L .stateOf m) s) (unsound L m ∷ nextFreeFaults (L .k) (L .stateOf m) s)
+    pub get-decided : (i : ℕ) (x : Said Bool) → GetSays m i x → FaultsDecide x (L .stateOf m i) (unsound L m ∷ getFaults (L .k) i)
+    pub empty-decided : (x : Said Bool) → EmptySays m x → FaultsDecide x (emptyCall (L .k) (L .stateOf m) .answer) (unsound L m ∷ [])
+    pub used-decided : (x : Said ℕ) → UsedSays m x → FaultsDecide x (usedCall (L .k) (L .stateOf m) .answer) (unsound L m ∷ [])
     -- and then the map handed back is the map handed in
     pub hands-back : (c : Call Slots Reply) (r : Out) → Leaves m c r → (k : ℕ) → said r ≡ refused k → left r ≡ m
     -- every call leaves a value of the map's type, and one outcome
@@ -141,17 +139,14 @@ module _ (L : View plain) (Out : Type 0) (said : Out → Said Reply) (left : Out
   -- ---- any layout meets them, whose outcomes are known by what they say and leave
 
   module _ (m : L .Map) (c : Call Slots Reply) (r : Out) (outcome : Leaves m c r) where
-    answer-is : said r ≡ answered L m c
-    answer-is = ap (λ out. out .0) outcome ∙ changed-says L m c
-
-    decided : (fs : List Fault) → RefusedBy c fs → FaultsDecide (said r) (c .answer) (unsound m ∷ fs)
-    decided fs by = rw answer-is (answered-decided L m c fs by)
+    decided : (fs : List Fault) → RefusedBy c fs → FaultsDecide (said r) (c .answer) (unsound L m ∷ fs)
+    decided = Outcome.decided L Out said left m c r outcome
 
     as-the-set : L .Sound m → said r ≡ says c
-    as-the-set sound = answer-is ∙ sound-answers L m c sound
+    as-the-set = Outcome.as-the-state L Out said left m c r outcome
 
     the-set-left : L .Sound m → L .IsMap m → left r ≡ L .ofState (leaves (L .stateOf m) c)
-    the-set-left sound held = ap (λ out. out .1) (outcome ∙ sound-changes L m c sound held)
+    the-set-left = Outcome.the-state-left L Out said left m c r outcome
 
     is-painted : L .Sound m → L .IsMap m → (reply : Reply) → said r ≡ value reply → (s n : ℕ) (v : Bool) → c .after ≡ painted (L .stateOf m) s n v
         → Painted m s n v r
@@ -185,14 +180,14 @@ module _ (L : View plain) (Out : Type 0) (said : Out → Said Reply) (left : Out
       get-decided = λ i x outcome. rw outcome (answered-decided L m _ _ (Promises.get-refused k S i));
       empty-decided = λ x outcome. rw outcome (answered-decided L m _ _ (Promises.empty-refused k S));
       used-decided = λ x outcome. rw outcome (answered-decided L m _ _ (Promises.used-refused k S));
-      hands-back = λ c r outcome number says-so. ap (λ out. out .1) outcome ∙ changed-refused L m c number (sym (ap (λ out. out .0) outcome) ∙ says-so);
-      stays-a-map = λ held c r outcome. rw (ap (λ out. out .1) outcome) (changed-map L m c held);
-      one-answer = λ c r q p o. known r q (ap (λ out. out .0) (p ∙ sym o)) (ap (λ out. out .1) (p ∙ sym o));
+      hands-back = Outcome.hands-back L Out said left m;
+      stays-a-map = λ held c r outcome. Outcome.stays-a-map L Out said left m c r outcome held;
+      one-answer = Outcome.one-answer L Out said left known m;
     }
 
     sound-map : L .Sound m → OfSound m
     sound-map sound = record {
-      stays-sound = λ c r outcome. rw (ap (λ out. out .1) outcome) (changed-sound L m c sound (λ a e. tt));
+      stays-sound = λ c r outcome. Outcome.stays-sound L Out said left m c r outcome sound (λ a e. tt);
       answers-as-the-set = λ c r outcome. as-the-set m c r outcome sound;
       leaves-the-set = λ held c r outcome. the-set-left m c r outcome sound held;
       take-grants = λ n a r outcome o. rw (as-the-set m _ r outcome sound) (Promises.take-promise k S n a o);

@@ -1,5 +1,6 @@
 -- Kinds of states. A state says of each place whether it is set. A kind says which places there are, which of them a range of slots names, and the rule
--- that a state keeps. There is one kind, that of slots: each slot is a place, and there is no rule. Rests on `Sets`.
+-- that a state keeps. Here is the kind of slots: each slot is a place, and there is no rule. That of jobs, with two places a slot, is in `Jobs`. Rests on
+-- `Sets`.
 use mathlib.Core.Path.{_≡_, refl}
 use mathlib.Core.Bool.{Bool, true, false}
 use Prim.Native.Nat.{ℕ}

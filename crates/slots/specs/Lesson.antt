@@ -1,13 +1,13 @@
--- The lesson's examples, on a map of four slots, as statements that antt computes: why a take cannot be moved, and what becomes of a second free.
--- Rests on `Series`.
+-- The lesson's examples, on a map of four slots, as statements that antt computes: why a take cannot be moved, what becomes of a second free, and what a
+-- trainee does who frees at reaping. Rests on `Series`, `JobView` and `Turns`.
 use mathlib.Core.Path.{_≡_, refl, _∙_}
 use mathlib.Core.Logic.{_↔_}
 use mathlib.Core.Bool.{Bool, true, false}
 use mathlib.Core.List.{List, [], _∷_, Perm, Perm·swap}
 use Prim.Native.Nat.{ℕ, _^_, _<_}
 use native.Mathlib.Omega.{arith}
-use Rattle.answers.specs.Said.{value, refused, judged, leaving}
-use Rattle.answers.specs.Answers.{at, ok}
+use Rattle.answers.specs.Said.{Said, value, refused, judged, leaving}
+use Rattle.answers.specs.Answers.{Reply, at, ok}
 use Rattle.bits.specs.Range.{least, every, within}
 use Rattle.bits.specs.Digits.{digit, number, digit-number, number-lt, number-digit, past-digit}
 use Rattle.slots.specs.Sets.{allFree, allUsed, painted, AllUsed}
@@ -18,6 +18,10 @@ use Rattle.slots.specs.Records.{Entry, naming-any-order}
 use Rattle.slots.specs.View.{View, answered, changed, changed-says, sound-answers}
 use Rattle.slots.specs.Kinds.{plain}
 use Rattle.slots.specs.Plain.{Asked, take, free, plainCalls}
+use Rattle.slots.specs.Jobs.{jobs, startCall, reapCall, recordCall}
+use Rattle.slots.specs.JobView.{jobsView, reapedUsed}
+use Rattle.slots.specs.Turns as Turns
+use Rattle.slots.specs.Turns.{start, reap, record-status}
 use Rattle.slots.specs.Series.{made, answersOf, recordOf, lastOf, last-sound}
 
 -- four slots in one number: slot s is digit s
@@ -86,3 +90,41 @@ a-later-free L m sound cs s n range =
 pub a-free-of-none : (m : ℕ) → answersOf four (plainCalls 2) m (free 0 0 ∷ []) ≡ refused 2 ∷ []
 unfolding changed answered leaving judged freeCall
 a-free-of-none m = refl
+
+-- ---- a trainee who frees at reaping, and the same day where a reaped slot is not free
+
+-- four slots of jobs: a number for the used slots, and another for the reaped ones
+abbrev pub fourJobs : View jobs
+fourJobs = jobsView four four (ℕ × ℕ) (record {
+  below = λ m. m .0;
+  reaped = λ m. m .1;
+  pair = λ used reaped. (used, reaped);
+  below-pair = λ used reaped. refl;
+  reaped-pair = λ used reaped. refl;
+  pair-same = λ m. refl;
+  same-size = refl;
+  always-sound = λ r. tt;
+})
+
+-- what is said of each call, one after the other
+abbrev pub saidOf : ℕ × ℕ → List Turns.Asked → List (Said Reply)
+saidOf m [] = []
+saidOf m (c ∷ cs) =
+    let out = changed fourJobs m (Turns.callOf 2 (fourJobs .stateOf m) c) in
+    out .0 ∷ saidOf (out .1) cs
+
+-- freed when its job is reaped, slot 0 is granted again at once. Reaped, it is not: the next group gets slot 1, and slot 0 only after the recording
+pub reaped-is-not-free : (answersOf four (plainCalls 2) 0 (take 1 0 ∷ free 0 1 ∷ take 1 0 ∷ []) ≡ value (at 0) ∷ value ok ∷ value (at 0) ∷ [])
+    × (saidOf (0, 0) (start 1 0 ∷ reap 0 1 ∷ start 1 0 ∷ record-status 0 1 ∷ start 1 0 ∷ []) ≡ value (at 0) ∷ value ok ∷ value (at 1) ∷ value ok ∷ value (at 0) ∷ [])
+unfolding changed answered leaving judged takeCall freeCall startCall reapCall recordCall lowest fitsAt least every within allFree allUsed painted reapedUsed digit number
+reaped-is-not-free = (refl, refl)
+
+-- the shortcuts: recording before reaping, reaping twice, and reaping a run that is partly reaped
+pub shortcuts-are-refused : (saidOf (0, 0) (start 2 0 ∷ record-status 0 2 ∷ reap 0 1 ∷ reap 0 1 ∷ reap 0 2 ∷ record-status 0 2 ∷ []) ≡ value (at 0) ∷ refused 14 ∷ value ok ∷ refused 13 ∷ refused 13 ∷ refused 14 ∷ [])
+unfolding changed answered leaving judged takeCall startCall reapCall recordCall lowest fitsAt least every within allFree allUsed painted reapedUsed digit number
+shortcuts-are-refused = refl
+
+-- a reaped slot that is not used is refused with 1, by every call
+pub stray-is-refused : saidOf (0, 1) (start 1 0 ∷ reap 0 1 ∷ record-status 0 1 ∷ []) ≡ refused 1 ∷ refused 1 ∷ refused 1 ∷ []
+unfolding changed answered leaving judged startCall takeCall reapCall recordCall reapedUsed every digit
+stray-is-refused = refl

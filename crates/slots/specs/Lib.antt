@@ -7,9 +7,15 @@ pub mod Search
 pub mod Tries
 pub mod Records
 pub mod View
+pub mod Outcome
 pub mod Family
 pub mod Plain
 pub mod Series
 pub mod Demands
+pub mod Jobs
+pub mod JobView
+pub mod Turns
+pub mod JobDemands
+pub mod Below
 pub mod Readings
 pub mod Lesson

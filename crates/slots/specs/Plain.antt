@@ -28,7 +28,7 @@ callOf k S (claim s n) = claimCall k S s n
 callOf k S (free s n) = freeCall k S s n
 
 -- where the run that was taken starts
-abbrev startOf : Reply → ℕ
+abbrev pub startOf : Reply → ℕ
 startOf (at o) = o
 startOf ok = 0
 

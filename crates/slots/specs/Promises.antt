@@ -180,7 +180,7 @@ not-past k s n r (inl l) = omega (arith, r .0, r .1)
 not-past k s n r (inr l) = omega (arith, r .0, r .1)
 
 -- a call over a range that one more fault P can refuse
-ranged : (k s n r : ℕ) (P : Type 0) (said : Said Reply) → FaultsDecide said ok ((2 if (n ≡ 0)) ∷ (4 if Past k s n) ∷ (r if P) ∷ [])
+pub ranged : (k s n r : ℕ) (P : Type 0) (said : Said Reply) → FaultsDecide said ok ((2 if (n ≡ 0)) ∷ (4 if Past k s n) ∷ (r if P) ∷ [])
     → (said ≡ value ok) ↔ (InRange k s n × (P → ⊥))
 ranged k s n r P said decided = (
   λ e.

@@ -3,7 +3,7 @@
 use mathlib.Core.Path.{_≡_, refl, sym, ap, subst, fun-ext, _∙_}
 use mathlib.Core.Bool.{false}
 use mathlib.Core.List.{List, [], _∷_, _++_, map, reverse, reverse-cons, map-append, Perm}
-use Prim.Native.Nat.{ℕ, _+_, _^_}
+use Prim.Native.Nat.{ℕ, _^_}
 use native.Mathlib.Omega.{arith}
 use lib.Dec.{ltb}
 use borrow.Author.Tests.{ltb-true, ltb-false}
@@ -15,6 +15,7 @@ use Rattle.slots.specs.Kinds.{Kind, State, turned-other}
 use Rattle.slots.specs.Calls.{says}
 use Rattle.slots.specs.Records.{Entry, undo, after, Turns, AllTurn, finally, touches, undo-restores, any-order}
 use Rattle.slots.specs.View.{View, changed, changed-says, changed-refused, changed-sound, changed-map, sound-answers, says-accepted, same-state}
+use Rattle.slots.specs.Outcome as Outcome
 use Rattle.slots.specs.Family.{Family, Bridge}
 
 -- every answer accepts
@@ -274,12 +275,9 @@ module _ {K : Kind} (L : View K) (F : Family K (L .k)) where
   -- ---- demand 3 of outcomes: the caller makes the calls, has what they say and leave, and makes the calls of the record, all by the contracts
 
   module _ (Out : Type 0) (said : Out → Said Reply) (left : Out → L .Map) where
-    -- a series as it was run: each outcome says and leaves what its call does on the map that the one before left
+    -- a series as it was run
     abbrev pub Ran : L .Map → List Asked → List Out → Type 0
-    Ran m [] [] = Unit {0}
-    Ran m [] (r ∷ rs) = ⊥
-    Ran m (c ∷ cs) [] = ⊥
-    Ran m (c ∷ cs) (r ∷ rs) = _≡_ {A = Said Reply × L .Map} (said r, left r) (made m c) × Ran (left r) cs rs
+    Ran = Outcome.Ran L Out said left (F .callOf)
 
     -- so its answers and its maps are those of the series
     pub ran-answers : (m : L .Map) (cs : List Asked) (rs : List Out) → Ran m cs rs → map said rs ≡ answersOf m cs
@@ -303,8 +301,7 @@ module _ {K : Kind} (L : View K) (F : Family K (L .k)) where
     recordRan (c ∷ cs) (r ∷ rs) = written c (said r) (recordRan cs rs)
 
     abbrev pub lastRan : L .Map → List Out → L .Map
-    lastRan m [] = m
-    lastRan m (r ∷ rs) = lastRan (left r) rs
+    lastRan = Outcome.lastRan L Out said left
 
     abbrev pub beforeRan : L .Map → List Out → List (L .Map)
     beforeRan m [] = []

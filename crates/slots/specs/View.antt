@@ -7,8 +7,8 @@ use mathlib.Core.List.{List, _∷_}
 use Prim.Native.Nat.{ℕ, _^_, _≤_, _<_}
 use native.Mathlib.Omega.{arith}
 use lib.Dec.{T, ltb, not-T, T-not}
-use borrow.Author.Tests.{ltb-true, ltb-false}
-use Rattle.answers.specs.Said.{Said, value, refused, _when_, judged, leaving, leaving-says, leaving-refused, leaving-keeps}
+use borrow.Author.Tests.{ltb-true, ltb-false, not-false}
+use Rattle.answers.specs.Said.{Said, value, refused, _when_, judged, judged-checked, leaving, leaving-says, leaving-refused, leaving-keeps}
 use Rattle.answers.specs.Faults.{Fault, _if_, FaultsDecide, faults-decide}
 use Rattle.bits.specs.Range.{either, same-test}
 use Rattle.slots.specs.Kinds.{Kind, State}
@@ -94,6 +94,11 @@ module _ {K : Kind} (L : View K) where
     -- demand 2: a sound map answers as its state does
     pub sound-answers : L .Sound m → answered m c ≡ says c
     sound-answers sound = found-sound (same-test (L .isSound m) true (λ _. tt) (λ _. L .finds-sound m .1 sound))
+
+    -- and where something is said that is no refusal, the map is sound
+    pub accepted-sound : (a : A) → answered m c ≡ value a → L .isSound m ≡ true
+    unfolding answered
+    accepted-sound a said = not-false _ (judged-checked 1 _ (c .checks) (c .answer) a said .0)
 
   module _ {A : Type 0} (m : L .Map) (c : Call (State K) A) where
     pub changed-says : changed m c .0 ≡ answered m c

@@ -1,0 +1,58 @@
+-- `compared_jobs::image::words` is safe, and ends: a word each turn. Assumes nothing.
+use borrow.Author.Needs.{needs}
+use Prim.Native.Nat.{_-_, _≤_}
+use Rattle.compared_jobs.proofs.image.words.Statement.{statement}
+use Rattle.compared_jobs.proofs.image.words.Tie as tie
+
+abbrev Inv-loop : tie.InvT-loop
+Inv-loop numbers at words₀ i₀ words i = i ≤ 16
+
+abbrev μ-loop : tie.MeasureT-loop
+μ-loop numbers at words₀ i₀ words i = 16 - i
+
+loop-holds : tie.Need-loop-holds Inv-loop μ-loop
+loop-holds c = search needs
+
+add-words : tie.Need-add-words Inv-loop μ-loop
+add-words c = search needs
+
+mul-words : tie.Need-mul-words Inv-loop μ-loop
+mul-words c = search needs
+
+element-copy-out-words : tie.Need-element-copy-out-words Inv-loop μ-loop
+element-copy-out-words c = search needs
+
+mul-words-2 : tie.Need-mul-words-2 Inv-loop μ-loop
+mul-words-2 c = search needs
+
+array-write-words : tie.Need-array-write-words Inv-loop μ-loop
+array-write-words c = search needs
+
+add-i : tie.Need-add-i Inv-loop μ-loop
+add-i c = search needs
+
+loop-less : tie.Need-loop-less Inv-loop μ-loop
+loop-less c = search needs
+
+loop-again : tie.Need-loop-again Inv-loop μ-loop
+loop-again c = search needs
+
+returns : tie.Need-returns Inv-loop μ-loop
+returns c = search needs
+
+pub words-spec : {M : Type 1} → statement M
+words-spec =
+    tie.close
+    (tie.spec
+    Inv-loop
+    μ-loop
+    loop-holds
+    add-words
+    mul-words
+    element-copy-out-words
+    mul-words-2
+    array-write-words
+    add-i
+    loop-less
+    loop-again
+    returns)

@@ -1,0 +1,3 @@
+pub mod Reaped
+pub mod Outcomes
+pub mod Values

@@ -1,0 +1,5 @@
+pub mod JobAnswers
+pub mod Layout
+pub mod Inner
+pub mod Contracts
+pub mod Demands
