@@ -604,26 +604,17 @@ starts(BUSY_MOST, 1, 0)
 starts(BUSY_MOST, 1, 1)
 for n, a in ((60, 0), (61, 0), (61, 6), (956, 0), (957, 0)):
     starts(PARTLY, n, a)
-PAST = ((0, 0), (1025, 0), (1023, 2), (1024, 1), (TOP, 2), (0, 1), (0, 1024))
-WHOLE = ((0, 1024), (0, 1025), (1023, 1), (1023, 2), (64, 64), (1, TOP))
-for start, n in PAST:
-    reaps(IDLE, start, n)
-for start, n in WHOLE:
-    reaps(BUSY, start, n)
-reaps(ENDED, 0, 1024)
-for start, n in ((60, 8), (62, 4), (59, 9), (60, 9)):
-    reaps(BUSY_ACROSS, start, n)
-for start, n in ((60, 2), (60, 3), (66, 2), (65, 3), (62, 4), (60, 8)):
-    reaps(PARTLY, start, n)
-for start, n in PAST:
-    records(IDLE, start, n)
-for start, n in WHOLE:
-    records(ENDED, start, n)
-records(BUSY, 0, 1024)
-for start, n in ((60, 8), (64, 4), (59, 9), (60, 9)):
-    records(ENDED_ACROSS, start, n)
-for start, n in ((62, 4), (63, 2), (61, 5), (62, 5), (60, 2), (60, 8)):
-    records(PARTLY, start, n)
+# reap and record have the same edges; `passes` has each slot as it has to be, `other` as the other call has it
+for call, passes, other, across in ((reaps, BUSY, ENDED, BUSY_ACROSS), (records, ENDED, BUSY, ENDED_ACROSS)):
+    for start, n in ((0, 0), (1025, 0), (1023, 2), (1024, 1), (TOP, 2), (0, 1), (0, 1024)):
+        call(IDLE, start, n)
+    for start, n in ((0, 1024), (0, 1025), (1023, 1), (1023, 2), (64, 64), (1, TOP)):
+        call(passes, start, n)
+    call(other, 0, 1024)
+    for start, n in ((60, 8), (62, 4), (64, 4), (59, 9), (60, 9)):
+        call(across, start, n)
+    for start, n in ((60, 2), (60, 3), (66, 2), (65, 3), (62, 4), (63, 2), (61, 5), (62, 5), (60, 8)):
+        call(PARTLY, start, n)
 for slot in (0, 1023, 1024, TOP):
     states(IDLE, slot)
 for slot in (59, 61, 62, 65, 66, 68):

@@ -486,74 +486,68 @@ pub fn job_starts_around() {
     states::start(name, partly, 957, 0);
 }
 
-pub fn reaps() {
-    let empty = Jobs::new_empty();
-    let all = running(0, 1024);
-    states::reap(names::EMPTY_JOBS, empty, 0, 0);
-    states::reap(names::EMPTY_JOBS, empty, 1025, 0);
-    states::reap(names::EMPTY_JOBS, empty, 1023, 2);
-    states::reap(names::EMPTY_JOBS, empty, 1024, 1);
-    states::reap(names::EMPTY_JOBS, empty, 18446744073709551615, 2);
-    states::reap(names::EMPTY_JOBS, empty, 0, 1);
-    states::reap(names::EMPTY_JOBS, empty, 0, 1024);
-    states::reap(names::JOBS_ALL_RUNNING, all, 0, 1024);
-    states::reap(names::JOBS_ALL_RUNNING, all, 0, 1025);
-    states::reap(names::JOBS_ALL_RUNNING, all, 1023, 1);
-    states::reap(names::JOBS_ALL_RUNNING, all, 1023, 2);
-    states::reap(names::JOBS_ALL_RUNNING, all, 64, 64);
-    states::reap(names::JOBS_ALL_RUNNING, all, 1, 18446744073709551615);
-    states::reap(names::JOBS_ALL_REAPED, reaped(0, 1024), 0, 1024);
+// A reap of these slots, or a record of them.
+fn passed(recording: bool, name: u8, jobs: Jobs, start: usize, n: usize) {
+    if recording {
+        states::record(name, jobs, start, n);
+    } else {
+        states::reap(name, jobs, start, n);
+    }
 }
 
-pub fn reaps_across() {
-    let across = running(60, 8);
-    states::reap(names::JOBS_WITH_SLOTS_60_TO_67_RUNNING, across, 60, 8);
-    states::reap(names::JOBS_WITH_SLOTS_60_TO_67_RUNNING, across, 62, 4);
-    states::reap(names::JOBS_WITH_SLOTS_60_TO_67_RUNNING, across, 59, 9);
-    states::reap(names::JOBS_WITH_SLOTS_60_TO_67_RUNNING, across, 60, 9);
+// What reap and record have in common: no slot of the empty state passes, and each of a state with all slots as they have to
+// be does.
+fn edges_of_ranges(recording: bool, name: u8, all: Jobs) {
+    let empty = Jobs::new_empty();
+    passed(recording, names::EMPTY_JOBS, empty, 0, 0);
+    passed(recording, names::EMPTY_JOBS, empty, 1025, 0);
+    passed(recording, names::EMPTY_JOBS, empty, 1023, 2);
+    passed(recording, names::EMPTY_JOBS, empty, 1024, 1);
+    passed(recording, names::EMPTY_JOBS, empty, 18446744073709551615, 2);
+    passed(recording, names::EMPTY_JOBS, empty, 0, 1);
+    passed(recording, names::EMPTY_JOBS, empty, 0, 1024);
+    passed(recording, name, all, 0, 1024);
+    passed(recording, name, all, 0, 1025);
+    passed(recording, name, all, 1023, 1);
+    passed(recording, name, all, 1023, 2);
+    passed(recording, name, all, 64, 64);
+    passed(recording, name, all, 1, 18446744073709551615);
+}
+
+// The same over the end of a word, and in a run of which a part is reaped.
+fn edges_across(recording: bool, name: u8, across: Jobs) {
+    passed(recording, name, across, 60, 8);
+    passed(recording, name, across, 62, 4);
+    passed(recording, name, across, 64, 4);
+    passed(recording, name, across, 59, 9);
+    passed(recording, name, across, 60, 9);
     let partly = partly_reaped();
-    let name = names::JOBS_WITH_SLOTS_60_TO_67_OF_WHICH_62_TO_65_REAPED;
-    states::reap(name, partly, 60, 2);
-    states::reap(name, partly, 60, 3);
-    states::reap(name, partly, 66, 2);
-    states::reap(name, partly, 65, 3);
-    states::reap(name, partly, 62, 4);
-    states::reap(name, partly, 60, 8);
+    let other = names::JOBS_WITH_SLOTS_60_TO_67_OF_WHICH_62_TO_65_REAPED;
+    passed(recording, other, partly, 60, 2);
+    passed(recording, other, partly, 60, 3);
+    passed(recording, other, partly, 66, 2);
+    passed(recording, other, partly, 65, 3);
+    passed(recording, other, partly, 62, 4);
+    passed(recording, other, partly, 63, 2);
+    passed(recording, other, partly, 61, 5);
+    passed(recording, other, partly, 62, 5);
+    passed(recording, other, partly, 60, 8);
+}
+
+pub fn reaps() {
+    edges_of_ranges(false, names::JOBS_ALL_RUNNING, running(0, 1024));
+    states::reap(names::JOBS_ALL_REAPED, reaped(0, 1024), 0, 1024);
+    edges_across(
+        false,
+        names::JOBS_WITH_SLOTS_60_TO_67_RUNNING,
+        running(60, 8),
+    );
 }
 
 pub fn records() {
-    let empty = Jobs::new_empty();
-    let all = reaped(0, 1024);
-    states::record(names::EMPTY_JOBS, empty, 0, 0);
-    states::record(names::EMPTY_JOBS, empty, 1025, 0);
-    states::record(names::EMPTY_JOBS, empty, 1023, 2);
-    states::record(names::EMPTY_JOBS, empty, 1024, 1);
-    states::record(names::EMPTY_JOBS, empty, 18446744073709551615, 2);
-    states::record(names::EMPTY_JOBS, empty, 0, 1);
-    states::record(names::EMPTY_JOBS, empty, 0, 1024);
-    states::record(names::JOBS_ALL_REAPED, all, 0, 1024);
-    states::record(names::JOBS_ALL_REAPED, all, 0, 1025);
-    states::record(names::JOBS_ALL_REAPED, all, 1023, 1);
-    states::record(names::JOBS_ALL_REAPED, all, 1023, 2);
-    states::record(names::JOBS_ALL_REAPED, all, 64, 64);
-    states::record(names::JOBS_ALL_REAPED, all, 1, 18446744073709551615);
+    edges_of_ranges(true, names::JOBS_ALL_REAPED, reaped(0, 1024));
     states::record(names::JOBS_ALL_RUNNING, running(0, 1024), 0, 1024);
-}
-
-pub fn records_across() {
-    let across = reaped(60, 8);
-    states::record(names::JOBS_WITH_SLOTS_60_TO_67_REAPED, across, 60, 8);
-    states::record(names::JOBS_WITH_SLOTS_60_TO_67_REAPED, across, 64, 4);
-    states::record(names::JOBS_WITH_SLOTS_60_TO_67_REAPED, across, 59, 9);
-    states::record(names::JOBS_WITH_SLOTS_60_TO_67_REAPED, across, 60, 9);
-    let partly = partly_reaped();
-    let name = names::JOBS_WITH_SLOTS_60_TO_67_OF_WHICH_62_TO_65_REAPED;
-    states::record(name, partly, 62, 4);
-    states::record(name, partly, 63, 2);
-    states::record(name, partly, 61, 5);
-    states::record(name, partly, 62, 5);
-    states::record(name, partly, 60, 2);
-    states::record(name, partly, 60, 8);
+    edges_across(true, names::JOBS_WITH_SLOTS_60_TO_67_REAPED, reaped(60, 8));
 }
 
 pub fn job_questions() {

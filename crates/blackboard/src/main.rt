@@ -45,9 +45,7 @@ fn main() {
     edges::job_starts();
     edges::job_starts_around();
     edges::reaps();
-    edges::reaps_across();
     edges::records();
-    edges::records_across();
     edges::job_questions();
     edges::unsound_jobs();
     lesson::second_free();

@@ -9,7 +9,7 @@ use types.Run.{OneOf}
 use denote.Enum.Declared.{tagOf}
 use borrow.Author.Tests.{not-true, not-false}
 use Rattle.answers.specs.Faults.{finds-both}
-use Rattle.answers.specs.Said.{Said, value, refused, Check, _when_, judged, leaving, onValue, judged-onValue, value≢refused}
+use Rattle.answers.specs.Said.{Said, value, refused, _when_, judged, leaving, onValue, judged-onValue, value≢refused, refused-injective}
 use Rattle.answers.specs.Refusals.{numberOf}
 use Rattle.answers.specs.Answers.{Reply, at, ok, truthSays, answerSays}
 use Rattle.answers.proofs.Judging.{refused-first, passed-on}
@@ -22,10 +22,10 @@ use Rattle.answers.specs.declared.Truth.the-variants.{Is, Refused as Truth·Ref
 use Rattle.bits.specs.Range.{and-true, and-false, either, same-test}
 use Rattle.slots.specs.Sets.{Named, allFree, allUsed, painted, AllUsed, finds-all-free, finds-all-used}
 use Rattle.slots.specs.Kinds as Kinds
-use Rattle.slots.specs.Calls.{Call, says, rangeChecks, takeCall, freeCall, getCall, emptyCall}
+use Rattle.slots.specs.Calls.{Call, says, takeCall, freeCall, getCall, emptyCall}
 use Rattle.slots.specs.Promises.{free-promise}
 use Rattle.slots.specs.View.{answered, changed, accepted-sound, found-unsound, found-sound, says-refused, says-accepted, sound-accepted}
-use Rattle.slots.specs.Jobs.{jobs, runningIn, stateBy, startCall, reapCall, recordCall, stateCall, record-decided, record-promise, reaped-means}
+use Rattle.slots.specs.Jobs.{jobs, runningIn, stateBy, startCall, reapCall, recordCall, stateCall, record-passed, reaped-means}
 use Rattle.slots.specs.JobView.{reapedUsed}
 use Rattle.views.specs.Painting.{slotIn, paintedWords}
 use Rattle.views.specs.Words.{AreWords, wordsOf, same-words, painted-words}
@@ -37,6 +37,7 @@ use Rattle.jobs.specs.declared.JobAnswer.the-variants.{At, Done, Refused
 use Rattle.jobs.specs.declared.JobRefusal.{JobRefusal}
 use Rattle.jobs.specs.declared.Jobs.{Jobs}
 use Rattle.jobs.specs.JobAnswers.{jobNumberOf, jobAnswerSays}
+use Rattle.jobs.specs.Inner.{rangeCall}
 use Rattle.jobs.specs.Layout.{jobsOf, jobsView, marksOf, ofMarks}
 use Rattle.answers.proofs.Truth.{the-type as Truth·type}
 use Rattle.jobs.proofs.JobAnswer.{the-type}
@@ -56,33 +57,28 @@ module _ (tree : Tree) (reaped : List ℕ) where
   abbrev j : Jobs
   j = jobsOf tree reaped
 
-  abbrev kept : Bool
-  kept = reapedUsed (slotOf tree) (slotIn reaped) 1024
-
   -- ---- check 1
 
-  -- by the flag of a branch on `!flag`
-  module _ (flag : Bool) (told : flag ≡ kept) where
-    pub shown-amiss : not flag ≡ true → kept ≡ false
-    shown-amiss e = sym told ∙ not-true flag e
-
-    pub shown-kept : not flag ≡ false → kept ≡ true
-    shown-kept e = sym told ∙ not-false flag e
-
-  pub reaped-unsound : kept ≡ false → jobsView .isSound j ≡ false
-  reaped-unsound e = ap (λ (b : Bool). treeView .isSound tree && b) e ∙ and-false (treeView .isSound tree)
-
-  pub sound-as-tree : kept ≡ true → jobsView .isSound j ≡ treeView .isSound tree
-  sound-as-tree e = ap (λ (b : Bool). treeView .isSound tree && b) e ∙ and-true (treeView .isSound tree)
-
-  pub amiss-refused : {A : Type 0} → kept ≡ false → (cs : List Check) (x : A) → refused 1 ≡ judged ((1 when not (jobsView .isSound j)) ∷ cs) x
-  unfolding judged
-  amiss-refused e cs x = rw (reaped-unsound e)
-
-  -- where each reaped slot is used, the tree's own check 1 is that of the jobs
-  pub answers-as-tree : {X A : Type 0} → kept ≡ true → (call : Call X A) → answered treeView tree call ≡ answered jobsView j call
+  -- where the tree's check 1 is that of the jobs, so is what it says
+  answers-as-tree : {X A : Type 0} → jobsView .isSound j ≡ treeView .isSound tree → (call : Call X A) → answered treeView tree call ≡ answered jobsView j call
   unfolding answered
-  answers-as-tree e call = ap (λ (b : Bool). judged ((1 when not b) ∷ call .checks) (call .answer)) (sym (sound-as-tree e))
+  answers-as-tree e call = ap (λ (b : Bool). judged ((1 when not b) ∷ call .checks) (call .answer)) (sym e)
+
+  -- by the flag of a branch on `!flag`: where a reaped slot is not used the state is not sound, and else it is sound as its tree is
+  module _ (flag : Bool) (told : flag ≡ reapedUsed (slotOf tree) (slotIn reaped) 1024) where
+    pub shown-amiss : not flag ≡ true → jobsView .isSound j ≡ false
+    shown-amiss e = ap (λ (b : Bool). treeView .isSound tree && b) (sym told ∙ not-true flag e) ∙ and-false (treeView .isSound tree)
+
+    pub shown-kept : not flag ≡ false → jobsView .isSound j ≡ treeView .isSound tree
+    shown-kept e = ap (λ (b : Bool). treeView .isSound tree && b) (sym told ∙ not-false flag e) ∙ and-true (treeView .isSound tree)
+
+    -- so a call that only asks is refused with 1, or the tree answers it
+    module _ {X A : Type 0} (call : Call X A) where
+      pub asked-amiss : not flag ≡ true → refused 1 ≡ answered jobsView j call
+      asked-amiss e = sym (found-unsound jobsView j call (shown-amiss e))
+
+      pub asked-below : not flag ≡ false → answered treeView tree call ≡ answered jobsView j call
+      asked-below e = answers-as-tree (shown-kept e) call
 
   -- ---- start
 
@@ -94,7 +90,7 @@ module _ (tree : Tree) (reaped : List ℕ) where
     started-by (refused r) = refl
 
     -- the tree's take, with the reaped slots beside it
-    pub started : kept ≡ true → (said : Said Reply) (left : Tree) → (said, left) ≡ changed treeView tree (takeCall 10 (slotOf tree) n a)
+    pub started : jobsView .isSound j ≡ treeView .isSound tree → (said : Said Reply) (left : Tree) → (said, left) ≡ changed treeView tree (takeCall 10 (slotOf tree) n a)
         → (said, jobsOf left reaped) ≡ changed jobsView j (startCall 10 (marksOf j) n a)
     unfolding changed answered startCall
     started e said left taken =
@@ -105,7 +101,7 @@ module _ (tree : Tree) (reaped : List ℕ) where
   -- ---- the state of a slot
 
   -- what the tree says of the slot's use tells its state, with its other mark
-  pub state-told : kept ≡ true → (slot : ℕ)
+  pub state-told : jobsView .isSound j ≡ treeView .isSound tree → (slot : ℕ)
       → answered jobsView j (stateCall 10 (marksOf j) slot) ≡ onValue (λ (used : Bool). stateBy used (slotIn reaped slot)) (answered treeView tree (getCall 10 (slotOf tree) slot))
   unfolding stateCall getCall answered
   state-told e slot =
@@ -115,28 +111,21 @@ module _ (tree : Tree) (reaped : List ℕ) where
   -- ---- the checks that come first
 
   module _ (told : Truth) (says-so : truthSays told ≡ answered treeView tree (emptyCall 10 (slotOf tree))) where
-    -- a tree that refuses to say whether it is empty is not sound
-    pub tree-refused : (why : Refusal) → told ≡ Truth·Refused why → kept ≡ true → (cs : List Check)
-        → refused (numberOf why) ≡ judged ((1 when not (jobsView .isSound j)) ∷ cs) ok
-    unfolding emptyCall says judged
-    tree-refused why e right cs =
-        let said : refused (numberOf why) ≡ answered treeView tree (emptyCall 10 (slotOf tree)) = sym (ap truthSays e) ∙ says-so in
-        either (treeView .isSound tree)
-        (λ sound. absurd (value≢refused _ _ (sym (found-sound treeView tree _ sound) ∙ sym said)))
-        (λ unsound.
-        ap (λ (x : Said Bool). passing x) (said ∙ found-unsound treeView tree _ unsound)
-        ∙ rw (sound-as-tree right ∙ unsound))
-      where
-        passing : Said Bool → Said Reply
-        passing (value b) = value ok
-        passing (refused k) = refused k
+    module _ (right : jobsView .isSound j ≡ treeView .isSound tree) {X A : Type 0} (call : Call X A) where
+      -- a tree that refuses to say whether it is empty is not sound
+      pub tree-refused : (why : Refusal) → told ≡ Truth·Refused why → refused (numberOf why) ≡ answered jobsView j call
+      unfolding emptyCall says judged
+      tree-refused why e =
+          let said : refused (numberOf why) ≡ answered treeView tree (emptyCall 10 (slotOf tree)) = sym (ap truthSays e) ∙ says-so in
+          either (treeView .isSound tree)
+          (λ sound. absurd (value≢refused _ _ (sym (found-sound treeView tree _ sound) ∙ sym said)))
+          (λ unsound. ap refused (refused-injective (said ∙ found-unsound treeView tree _ unsound)) ∙ sym (found-unsound jobsView j call (right ∙ unsound)))
 
-    -- and one that says it is
-    pub tree-passed : OneOf (0 ∷ []) (tagOf Truth·type told) → kept ≡ true → (cs : List Check) → judged cs ok ≡ judged ((1 when not (jobsView .isSound j)) ∷ cs) ok
-    unfolding judged
-    tree-passed is right cs =
-        let said = is-told told is in
-        rw (sound-as-tree right ∙ accepted-sound treeView tree (emptyCall 10 (slotOf tree)) (said .0) (sym says-so ∙ said .1))
+      -- and one that says it is
+      pub tree-passed : OneOf (0 ∷ []) (tagOf Truth·type told) → says call ≡ answered jobsView j call
+      tree-passed is =
+          let said = is-told told is in
+          sym (found-sound jobsView j call (right ∙ accepted-sound treeView tree (emptyCall 10 (slotOf tree)) (said .0) (sym says-so ∙ said .1)))
 
   -- ---- each named slot is running: used in the tree, and not reaped
 
@@ -170,7 +159,7 @@ module _ (tree : Tree) (reaped : List ℕ) where
     none-idle used free told also e f = rw (all-running s n, sym told ∙ not-false used e, sym also ∙ not-false free f)
 
     -- the checks that come first have been judged, and reap's own or record's decides
-    module _ (range : Answer) (told : answerSays range ≡ judged ((1 when not (jobsView .isSound j)) ∷ rangeChecks 10 s n) ok) where
+    module _ (range : Answer) (told : answerSays range ≡ answered jobsView j (rangeCall s n)) where
       pub reap-first : (why : Refusal) → range ≡ Answer·Refused why → refused (numberOf why) ≡ answered jobsView j (reapCall 10 (marksOf j) s n)
       unfolding answered reapCall
       reap-first why e = sym (refused-first _ range told _ ok why e)
@@ -217,9 +206,7 @@ module _ (tree : Tree) (reaped : List ℕ) where
     records reply answer said left freed =
         let is-sound = accepted-sound jobsView j _ reply answer in
         let sound = jobsView .finds-sound j .0 (rw is-sound tt) in
-        let told = sym (found-sound jobsView j _ is-sound) ∙ answer in
-        let done = told ∙ ap value (sym (record-decided 10 (marksOf j) s n .accepts reply .0 told .1)) in
-        let named = record-promise 10 (marksOf j) s n .0 done in
+        let named = record-passed 10 (marksOf j) s n reply (sym (found-sound jobsView j _ is-sound) ∙ answer) in
         let used : AllUsed (slotOf tree) s n = λ i h. sound .reaped-used i (omega (arith, named .0 .1, h .1)) (reaped-means (marksOf j) i .1 (named .1 i h)) in
         let tree-said = free-promise 10 (slotOf tree) s n .1 (named .0, used) in
         let tree-left = ap (λ out. out .1) (freed ∙ sound-accepted treeView tree (freeCall 10 (slotOf tree) s n) ok (sound .map-sound) tree-said) in

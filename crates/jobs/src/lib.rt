@@ -126,7 +126,7 @@ impl Jobs {
         if !reaped_used(tree, &reaped) {
             return Changed {
                 answer: JobAnswer::Refused(JobRefusal::Map(Refusal::Unsound)),
-                jobs: Jobs { tree, reaped },
+                jobs: self,
             };
         }
         let taken = tree.take(n, a);
@@ -153,7 +153,7 @@ impl Jobs {
         if let JobAnswer::Refused(_) = judged {
             return Changed {
                 answer: judged,
-                jobs: Jobs { tree, reaped },
+                jobs: self,
             };
         }
         rows::paint(&mut reaped, start, n, true, SHIFTS);
@@ -175,7 +175,7 @@ impl Jobs {
         if let JobAnswer::Refused(_) = judged {
             return Changed {
                 answer: judged,
-                jobs: Jobs { tree, reaped },
+                jobs: self,
             };
         }
         let freed = tree.free(start, n);

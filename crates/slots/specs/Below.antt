@@ -6,7 +6,7 @@ use mathlib.Core.List.{List, [], _∷_}
 use Prim.Native.Nat.{ℕ}
 use native.Mathlib.Omega.{arith}
 use Rattle.answers.specs.Said.{Said, value, refused}
-use Rattle.answers.specs.Answers.{Reply, ok}
+use Rattle.answers.specs.Answers.{Reply}
 use Rattle.slots.specs.Kinds.{plain, State}
 use Rattle.slots.specs.Calls.{Call, says, freeCall}
 use Rattle.slots.specs.Promises.{free-promise}
@@ -17,7 +17,7 @@ use Rattle.slots.specs.Plain as Plain
 use Rattle.slots.specs.Plain.{take, free}
 use Rattle.slots.specs.Series as Series
 use Rattle.slots.specs.Demands as Slots
-use Rattle.slots.specs.Jobs.{jobs, usedIn, startCall, reapCall, recordCall, start-says, record-promise, record-decided, reaped-means}
+use Rattle.slots.specs.Jobs.{jobs, usedIn, startCall, reapCall, recordCall, start-says, record-passed, record-decided, reaped-means}
 use Rattle.slots.specs.JobView.{Paired, jobsView}
 use Rattle.slots.specs.Turns as Turns
 use Rattle.slots.specs.Turns.{Asked, start, reap, record-status, callOf, Event, granted, reaping, recording}
@@ -79,11 +79,10 @@ module _ (B R : View plain) (M : Type 0) (P : Paired B R M) (Out : Type 0) (said
   frees-below : (m : M) → L .Sound m → (s n : ℕ) (reply : Reply) → says (recordCall (B .k) (L .stateOf m) s n) ≡ value reply
       → says (freeCall (B .k) (B .stateOf (P .below m)) s n) ≡ value reply
   frees-below m sound s n reply told =
-      let done : ok ≡ reply = record-decided (B .k) (L .stateOf m) s n .accepts reply .0 told .1 in
-      let named = record-promise (B .k) (L .stateOf m) s n .0 (told ∙ ap value (sym done)) in
+      let named = record-passed (B .k) (L .stateOf m) s n reply told in
       free-promise (B .k) (B .stateOf (P .below m)) s n .1
       (named .0, λ i h. sound .reaped-used i (omega (arith, named .0 .1, h .1)) (reaped-means (L .stateOf m) i .1 (named .1 i h)))
-      ∙ ap value done
+      ∙ ap value (record-decided (B .k) (L .stateOf m) s n .accepts reply .0 told .1)
 
   -- ---- a series
 

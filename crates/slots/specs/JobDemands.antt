@@ -20,7 +20,6 @@ use Rattle.slots.specs.Promises.{InRange, takeFaults, getFaults}
 use Rattle.slots.specs.View.{View, answered, answered-decided, sound-answers, sound-accepted}
 use Rattle.slots.specs.Outcome as Outcome
 use Rattle.slots.specs.Outcome.{Leaves, unsound}
-use Rattle.slots.specs.Jobs as Jobs
 use Rattle.slots.specs.Jobs.{jobs, SlotState, free, running, reaped, usedIn, stateIn, AllAre, Moves, startCall, reapCall, recordCall, stateCall, reapFaults, recordFaults, start-refused, reap-refused, record-refused, state-refused, start-says, reap-promise, record-promise, state-promise, start-moves, reap-moves, record-moves, start-keeps, reap-keeps, record-keeps}
 use Rattle.slots.specs.JobView.{Paired, jobsView}
 use Rattle.slots.specs.Turns as Turns
@@ -101,7 +100,7 @@ module _ (B R : View plain) (M : Type 0) (P : Paired B R M) (Out : Type 0) (said
   -- each call keeps the rule that a reaped slot is used
   pub keeps : (m : M) → jobs .Right (X m) → (c : Asked) (reply : Reply) → says (callOf (B .k) (X m) c) ≡ value reply → jobs .Right (callOf (B .k) (X m) c .after)
   keeps m right (start n a) reply told = start-keeps (B .k) (X m) right n a
-  keeps m right (reap s n) reply told = reap-keeps (B .k) (X m) right s n (told ∙ ap value (sym (Jobs.reap-decided (B .k) (X m) s n .accepts reply .0 told .1)))
+  keeps m right (reap s n) reply told = reap-keeps (B .k) (X m) right s n reply told
   keeps m right (record-status s n) reply told = record-keeps (B .k) (X m) right s n
 
   module _ (m : M) (sound : L .Sound m) where
@@ -149,11 +148,11 @@ module _ (B R : View plain) (M : Type 0) (P : Paired B R M) (Out : Type 0) (said
           reap-accepts = λ s n r outcome. rw (as-the-marks _ r outcome) (reap-promise (B .k) (X m) s n);
           reap-reaps = λ held s n r outcome e.
               let told = sym (as-the-marks _ r outcome) ∙ e in
-              moved m sound _ r outcome ok told s n running reaped (reap-moves (B .k) (X m) s n told);
+              moved m sound _ r outcome ok told s n running reaped (reap-moves (B .k) (X m) s n ok told);
           record-accepts = λ s n r outcome. rw (as-the-marks _ r outcome) (record-promise (B .k) (X m) s n);
           record-frees = λ held s n r outcome e.
               let told = sym (as-the-marks _ r outcome) ∙ e in
-              moved m sound _ r outcome ok told s n reaped free (record-moves (B .k) (X m) s n told);
+              moved m sound _ r outcome ok told s n reaped free (record-moves (B .k) (X m) s n ok told);
           state-tells = λ i x outcome is. rw (outcome ∙ sound-answers L m _ sound) (state-promise (B .k) (X m) i is);
           empty-tells = λ x outcome b. rw (outcome ∙ sound-answers L m _ sound) (Promises.empty-promise (B .k) (usedIn (X m)) b);
           used-counts = λ x outcome. outcome ∙ sound-answers L m _ sound ∙ Promises.used-promise (B .k) (usedIn (X m));

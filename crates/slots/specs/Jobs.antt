@@ -234,6 +234,13 @@ module _ (k : ℕ) (X : State jobs) where
   pub record-promise : (s n : ℕ) → (says (recordCall k X s n) ≡ value ok) ↔ (InRange k s n × AllAre reaped X s n)
   record-promise s n = accepts-all (reapedIn X) reaped X (reaped-means X) s n k 14 (says (recordCall k X s n)) (record-decided s n)
 
+  -- so one that is accepted, whatever it replies, has passed these checks
+  pub reap-passed : (s n : ℕ) (reply : Reply) → says (reapCall k X s n) ≡ value reply → InRange k s n × AllAre running X s n
+  reap-passed s n reply told = reap-promise s n .0 (told ∙ ap value (sym (reap-decided s n .accepts reply .0 told .1)))
+
+  pub record-passed : (s n : ℕ) (reply : Reply) → says (recordCall k X s n) ≡ value reply → InRange k s n × AllAre reaped X s n
+  record-passed s n reply told = record-promise s n .0 (told ∙ ap value (sym (record-decided s n .accepts reply .0 told .1)))
+
   -- a slot's state is told where there is such a slot
   pub state-promise : (i : ℕ) (is : SlotState) → (says (stateCall k X i) ≡ value is) ↔ ((i < 2 ^ k) × (stateIn X i ≡ is))
   unfolding stateCall
@@ -267,24 +274,24 @@ module _ (k : ℕ) (X : State jobs) where
         others = λ i h. rw (left, painted-other (usedIn X) o n true i h);
       }
 
-  pub reap-moves : (s n : ℕ) → says (reapCall k X s n) ≡ value ok → Moves (reapCall k X s n .after) s n running reaped
+  pub reap-moves : (s n : ℕ) (reply : Reply) → says (reapCall k X s n) ≡ value reply → Moves (reapCall k X s n .after) s n running reaped
   unfolding reapCall
-  reap-moves s n said =
-      let promised = reap-promise s n .0 said in
+  reap-moves s n reply said =
+      let passed = reap-passed s n reply said in
       record {
-        range = promised .0;
-        were = promised .1;
+        range = passed .0;
+        were = passed .1;
         are = λ i h. reaped-means (reapCall k X s n .after) i .0 (painted-named (reapedIn X) s n true i h);
         others = λ i h. rw (painted-other (reapedIn X) s n true i h);
       }
 
-  pub record-moves : (s n : ℕ) → says (recordCall k X s n) ≡ value ok → Moves (recordCall k X s n .after) s n reaped free
+  pub record-moves : (s n : ℕ) (reply : Reply) → says (recordCall k X s n) ≡ value reply → Moves (recordCall k X s n .after) s n reaped free
   unfolding recordCall
-  record-moves s n said =
-      let promised = record-promise s n .0 said in
+  record-moves s n reply said =
+      let passed = record-passed s n reply said in
       record {
-        range = promised .0;
-        were = promised .1;
+        range = passed .0;
+        were = passed .1;
         are = λ i h. free-means (recordCall k X s n .after) i (painted-named (usedIn X) s n false i h) (painted-named (reapedIn X) s n false i h);
         others = λ i h. rw (painted-other (usedIn X) s n false i h, painted-other (reapedIn X) s n false i h);
       }
@@ -295,10 +302,10 @@ module _ (k : ℕ) (X : State jobs) where
   start-keeps right n a i r =
       named-or-not (lowest k (usedIn X) n a) n i (painted-named (usedIn X) _ n true i) (λ h. painted-other (usedIn X) _ n true i h ∙ right i r)
 
-  pub reap-keeps : jobs .Right X → (s n : ℕ) → says (reapCall k X s n) ≡ value ok → jobs .Right (reapCall k X s n .after)
+  pub reap-keeps : jobs .Right X → (s n : ℕ) (reply : Reply) → says (reapCall k X s n) ≡ value reply → jobs .Right (reapCall k X s n .after)
   unfolding reapCall
-  reap-keeps right s n said i r =
-      named-or-not s n i (λ h. running-used X i (reap-promise s n .0 said .1 i h)) (λ h. right i (sym (painted-other (reapedIn X) s n true i h) ∙ r))
+  reap-keeps right s n reply said i r =
+      named-or-not s n i (λ h. running-used X i (reap-passed s n reply said .1 i h)) (λ h. right i (sym (painted-other (reapedIn X) s n true i h) ∙ r))
 
   pub record-keeps : jobs .Right X → (s n : ℕ) → jobs .Right (recordCall k X s n .after)
   unfolding recordCall

@@ -19,7 +19,7 @@ use Rattle.slots.specs.Promises as Promises
 use Rattle.slots.specs.Plain.{startOf}
 use Rattle.slots.specs.View.{View, sound-answers, says-accepted, accepted-sound}
 use Rattle.slots.specs.Outcome as Outcome
-use Rattle.slots.specs.Jobs.{jobs, usedAt, reapedAt, SlotState, free, running, reaped, stateBy, stateIn, usedIn, startCall, reapCall, recordCall, Moves, start-says, start-moves, reap-moves, record-moves, reap-decided, record-decided, free-means, reaped≢free, reaped≢running}
+use Rattle.slots.specs.Jobs.{jobs, usedAt, reapedAt, SlotState, free, running, reaped, stateBy, stateIn, usedIn, startCall, reapCall, recordCall, Moves, start-says, start-moves, reap-moves, record-moves, free-means, reaped≢free, reaped≢running}
 
 -- ---- calls and events
 
@@ -112,8 +112,8 @@ moves : (k : ℕ) (X : State jobs) → jobs .Right X → (c : Asked) (reply : Re
 moves k X right (start n a) reply told =
     let same = Promises.take-decided k (usedIn X) n a .accepts reply .0 (sym (start-says k X n a) ∙ told) .1 in
     subst (λ (r : Reply). Moves k X (startCall k X n a .after) (startOf r) n free running) same (start-moves k X right n a _ (told ∙ ap value (sym same)))
-moves k X right (reap s n) reply told = reap-moves k X s n (told ∙ ap value (sym (reap-decided k X s n .accepts reply .0 told .1)))
-moves k X right (record-status s n) reply told = record-moves k X s n (told ∙ ap value (sym (record-decided k X s n .accepts reply .0 told .1)))
+moves k X right (reap s n) reply told = reap-moves k X s n reply told
+moves k X right (record-status s n) reply told = record-moves k X s n reply told
 
 -- ---- of outcomes
 

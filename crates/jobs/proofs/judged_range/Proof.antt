@@ -1,9 +1,9 @@
 -- `jobs::judged_range` meets its contract: 1 where a reaped slot is not used or the tree is not sound, and else what the judge of ranges says. Assumes nothing.
 use mathlib.Core.Path.{_∙_}
 use borrow.Author.Needs.{needs}
-use Rattle.answers.specs.Answers.{ok}
-use Rattle.slots.specs.Calls.{rangeChecks}
-use Rattle.jobs.proofs.Outcomes.{shown-amiss, shown-kept, amiss-refused, tree-refused, tree-passed}
+use Rattle.slots.specs.Calls.{says}
+use Rattle.jobs.specs.Inner.{rangeCall}
+use Rattle.jobs.proofs.Outcomes.{shown-kept, asked-amiss, tree-refused, tree-passed}
 use Rattle.jobs.proofs.judged_range.Statement.{statement}
 use Rattle.jobs.proofs.judged_range.Tie as tie
 
@@ -14,7 +14,7 @@ returns : tie.Need-returns
 returns c =
     let tested = c .before in
     let asked = tested .before .args in
-    amiss-refused (asked .tree) (asked .reaped .now) (shown-amiss (asked .tree) (asked .reaped .now) _ (tested .reaped-used .ensures) (c .if1 .taken)) (rangeChecks 10 (asked .start) (asked .n)) ok
+    asked-amiss (asked .tree) (asked .reaped .now) _ (tested .reaped-used .ensures) (rangeCall (asked .start) (asked .n)) (c .if1 .taken)
 
 empty-requires : tie.Need-empty-requires
 empty-requires c κs = search needs
@@ -31,8 +31,8 @@ returns-2 c =
     let asked = tested .before .args in
     let tree = asked .tree in
     let reaped = asked .reaped .now in
-    tree-refused tree reaped (telling .empty .result) (telling .empty .ensures) (known .told .given .0 .0) (known .told .given .1)
-    (shown-kept tree reaped _ (tested .reaped-used .ensures) (first .if1 .left)) (rangeChecks 10 (asked .start) (asked .n))
+    tree-refused tree reaped (telling .empty .result) (telling .empty .ensures) (shown-kept tree reaped _ (tested .reaped-used .ensures) (first .if1 .left))
+    (rangeCall (asked .start) (asked .n)) (known .told .given .0 .0) (known .told .given .1)
 
 enum-told : tie.Need-enum-told
 enum-told c = search needs
@@ -41,6 +41,7 @@ range-requires : tie.Need-range-requires
 range-requires c κs = search needs
 
 returns-3 : tie.Need-returns-3
+unfolding says
 returns-3 c =
     let kept = c .before .before in
     let telling = kept .before in
@@ -50,8 +51,8 @@ returns-3 c =
     let tree = asked .tree in
     let reaped = asked .reaped .now in
     c .range .ensures
-    ∙ tree-passed tree reaped (telling .empty .result) (telling .empty .ensures) (kept .match .keys2)
-    (shown-kept tree reaped _ (tested .reaped-used .ensures) (first .if1 .left)) (rangeChecks 10 (asked .start) (asked .n))
+    ∙ tree-passed tree reaped (telling .empty .result) (telling .empty .ensures) (shown-kept tree reaped _ (tested .reaped-used .ensures) (first .if1 .left))
+    (rangeCall (asked .start) (asked .n)) (kept .match .keys2)
 
 pub judged-range-spec : {M : Type 1} → statement M
 judged-range-spec = tie.close (tie.spec reaped-used-requires returns empty-requires enum-known-told returns-2 enum-told range-requires returns-3)

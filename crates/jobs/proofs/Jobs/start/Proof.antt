@@ -4,10 +4,10 @@ use borrow.Author.Needs.{needs}
 use Rattle.answers.specs.Said.{Said}
 use Rattle.answers.specs.Answers.{Reply, answerSays}
 use Rattle.slots.specs.Jobs.{startCall}
-use Rattle.slots.specs.View.{found-unsound, says-refused}
+use Rattle.slots.specs.View.{says-refused}
 use Rattle.jobs.specs.Layout.{jobsView, marksOf, jobsOf}
 use Rattle.jobs.proofs.Values.{are-jobs}
-use Rattle.jobs.proofs.Outcomes.{shown-amiss, shown-kept, reaped-unsound, started}
+use Rattle.jobs.proofs.Outcomes.{shown-kept, asked-amiss, started}
 use Rattle.jobs.proofs.Jobs.start.Statement.{statement}
 use Rattle.jobs.proofs.Jobs.start.Tie as tie
 
@@ -20,7 +20,7 @@ returns c =
     let asked = tested .before .before .before .before .args in
     let j = asked .self in
     let call = startCall 10 (marksOf j) (asked .n) (asked .a) in
-    sym (says-refused jobsView j call 1 (found-unsound jobsView j call (reaped-unsound (j .tree) (j .reaped) (shown-amiss (j .tree) (j .reaped) _ (tested .reaped-used .ensures) (c .if1 .taken)))))
+    sym (says-refused jobsView j call 1 (sym (asked-amiss (j .tree) (j .reaped) _ (tested .reaped-used .ensures) call (c .if1 .taken))))
 
 take-requires : tie.Need-take-requires
 take-requires c κs = search needs

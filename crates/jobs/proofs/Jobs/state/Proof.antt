@@ -5,10 +5,9 @@ use Rattle.answers.specs.Said.{value, onValue}
 use Rattle.answers.specs.Answers.{truthSays}
 use mathlib.Core.Bool.{Bool}
 use Rattle.slots.specs.Jobs.{stateCall, stateBy}
-use Rattle.slots.specs.View.{found-unsound}
 use Rattle.views.specs.Painting.{slotIn}
-use Rattle.jobs.specs.Layout.{jobsView, marksOf}
-use Rattle.jobs.proofs.Outcomes.{shown-amiss, shown-kept, reaped-unsound, state-told}
+use Rattle.jobs.specs.Layout.{marksOf}
+use Rattle.jobs.proofs.Outcomes.{shown-kept, asked-amiss, state-told}
 use Rattle.jobs.proofs.Jobs.state.Statement.{statement}
 use Rattle.jobs.proofs.Jobs.state.Tie as tie
 
@@ -20,7 +19,7 @@ returns c =
     let tested = c .before in
     let asked = tested .before .before .before .before .args in
     let j = asked .t1 in
-    sym (found-unsound jobsView j (stateCall 10 (marksOf j) (asked .slot)) (reaped-unsound (j .tree) (j .reaped) (shown-amiss (j .tree) (j .reaped) _ (tested .reaped-used .ensures) (c .if1 .taken))))
+    asked-amiss (j .tree) (j .reaped) _ (tested .reaped-used .ensures) (stateCall 10 (marksOf j) (asked .slot)) (c .if1 .taken)
 
 get-requires : tie.Need-get-requires
 get-requires c κs = search needs
