@@ -1,6 +1,6 @@
 #!/usr/bin/env python3
 """The blackboard's examples once more, worked out from the papers' sentences alone: document 01's, for the third level
-those of request One, and for jobs those of request Three.
+those of request One, for jobs those of request Three, and for what a map stores those of request Four.
 
 Nothing here is shared with the crates: no code, no table, no list of examples. Where the crates use
 masks, this counts: a power of two is found by trying exponents, a multiple by dividing whole numbers
@@ -74,8 +74,9 @@ def clear(buffer, start, end):
 
 
 # a map is the set of its used slots and the number of slots that it has; take, claim, free and set give
-# the set that they leave. A word map has 64 slots. A tree has 1,024, and a summary. The third level has 16,384,
-# a summary, and below it sixteen trees with their own. What a map tells in its summaries may be wrong
+# the set that they leave. A word map has 64 slots. A tree has 1,024, and stores a summary, a mark of full words and a
+# count. The third level has 16,384 and a summary, and below it sixteen trees with what they store. What a map tells so
+# may be wrong
 
 
 def summary(used, part):
@@ -83,23 +84,34 @@ def summary(used, part):
     return sum(2**i for i in {slot // part for slot in used})
 
 
-def summaries(size, used):
-    """What a map with these slots has to tell: its own summary first, then those of its trees."""
+def full_mark(used):
+    """Bit i is 1 exactly if each of the 64 slots of word i is used."""
+    return sum(2**word for word in range(16) if all(64 * word + place in used for place in range(64)))
+
+
+def stored(used):
+    """What a tree with these slots has to store."""
+    return [summary(used, 64), full_mark(used), len(used)]
+
+
+def to_tell(size, used):
+    """What a map with these slots has to tell: its summary, then what is stored beside it. This is the mark and the count of
+    a tree, and of the third level what each of its trees stores."""
     if size == 64:
         return []
     if size == 1024:
-        return [summary(used, 64)]
+        return stored(used)
     trees = [{slot - first for slot in used if first <= slot < first + 1024} for first in range(0, size, 1024)]
-    return [summary(used, 1024)] + [summary(tree, 64) for tree in trees]
+    return [summary(used, 1024)] + [stored(tree) for tree in trees]
 
 
 class Map:
     def __init__(self, size, used=(), told=None):
         self.size, self.used = size, set(used)
-        self.told = summaries(size, self.used) if told is None else told
+        self.told = to_tell(size, self.used) if told is None else told
 
     def sound(self):
-        refuse(1, self.told != summaries(self.size, self.used))
+        refuse(1, self.told != to_tell(self.size, self.used))
 
     def inside(self, start, n):
         refuse(2, n == 0)
@@ -156,8 +168,8 @@ class Map:
 
 
 # what request Three says: a slot is free, running or reaped. A state of jobs has the set of its running slots and the set
-# of its reaped ones, which are both used, and a summary, which it may tell wrong. A stray slot is said to be reaped and
-# is not used. Start, reap and record give the state that they leave
+# of its reaped ones, which are both used, and stores what a tree does, which it may tell wrong. A stray slot is said to be
+# reaped and is not used. Start, reap and record give the state that they leave
 
 
 class Jobs:
@@ -165,10 +177,10 @@ class Jobs:
 
     def __init__(self, running=(), reaped=(), told=None, stray=()):
         self.running, self.reaped, self.stray = set(running), set(reaped), set(stray)
-        self.told = summary(self.running | self.reaped, 64) if told is None else told
+        self.told = stored(self.running | self.reaped) if told is None else told
 
     def sound(self):
-        refuse(1, self.stray or self.told != summary(self.running | self.reaped, 64))
+        refuse(1, self.stray or self.told != stored(self.running | self.reaped))
 
     def named(self, start, n):
         self.sound()
@@ -262,19 +274,26 @@ def runs(used):
     return "".join(f" {first}..{last}" for first, last in zip(firsts, lasts)) or " none"
 
 
+def in_words(told):
+    """What a tree stores."""
+    return f" under summary {told[0]}, full mark {told[1]}, count {told[2]}"
+
+
 def groups(trees):
-    """The trees whose summary is not 0; those side by side that have the same one are said as first and last."""
+    """The trees that store anything but 0; those side by side that store the same are said as first and last."""
     said = ""
     for told, group in itertools.groupby(range(len(trees)), lambda tree: trees[tree]):
         group = list(group)
-        if told != 0:
-            said += f", trees {group[0]}..{group[-1]} under {told}"
+        if any(told):
+            said += f", trees {group[0]}..{group[-1]}{in_words(told)}"
     return said
 
 
 def picture(m):
     if m.size == 64:
         return " " + "".join("#" if slot in m.used else "." for slot in range(64))
+    if m.size == 1024:
+        return runs(m.used) + in_words(m.told)
     return f"{runs(m.used)} under summary {m.told[0]}{groups(m.told[1:])}"
 
 
@@ -287,18 +306,19 @@ def changed(name, words, call):
     except Refused as refusal:
         answer = f"refused {refusal}"
     print(f"{name}: {words}: {answer}, leaves{picture(left)}")
+    return left
 
 
 def takes(name, n, a, how="take"):
-    changed(name, f"{how} {n} at a multiple of 2^{a}", lambda m: m.take(n, a))
+    return changed(name, f"{how} {n} at a multiple of 2^{a}", lambda m: m.take(n, a))
 
 
 def claims(name, start, n):
-    changed(name, f"claim from {start}, {n}", lambda m: m.claim(start, n))
+    return changed(name, f"claim from {start}, {n}", lambda m: m.claim(start, n))
 
 
 def frees(name, start, n, how="free"):
-    changed(name, f"{how} from {start}, {n}", lambda m: m.free(start, n))
+    return changed(name, f"{how} from {start}, {n}", lambda m: m.free(start, n))
 
 
 def sets(name, start, n, value):
@@ -323,7 +343,7 @@ SIGNS = {"free": ".", "running": "#", "reaped": "r"}
 
 
 def in_runs(jobs):
-    return f"{runs(jobs.running | jobs.reaped)} under summary {jobs.told}, reaped{runs(jobs.reaped | jobs.stray)}"
+    return f"{runs(jobs.running | jobs.reaped)}{in_words(jobs.told)}, reaped{runs(jobs.reaped | jobs.stray)}"
 
 
 def in_row(jobs):
@@ -363,20 +383,33 @@ EMPTY, FULL = "empty word", "full word"
 FIRST, THIRD, TENTH, LOW = "word with slot 0", "word with slot 2", "word with slot 10", "word with slots 0 to 62"
 BARE, PACKED = "empty tree", "full tree"
 ONE, INNER, ACROSS = "tree with slot 0", "tree with slot 70", "tree with slots 60 to 67"
-MOST = "tree with slots 0 to 1022"
+MOST, WORDS_FULL = "tree with slots 0 to 1022", "tree with slots 0 to 959"
 BAD, HIDDEN = "no slot under summary 1", "all slots under summary 32767"
+UNMARKED, OVERMARKED = "full tree with full mark 32767", "empty tree with full mark 1"
+NEIGHBOUR_MARKED = "tree with slots 0 to 63, full mark 2"
+COUNT_HIGH, COUNT_LOW = "empty tree with count 1", "full tree with count 1023"
 LARGE, LARGE_FULL, LARGE_ONE = "empty third level", "full third level", "third level with slot 0"
 LARGE_ACROSS, LARGE_MOST = "third level with slots 1000 to 1099", "third level with slots 0 to 16382"
+TREES_FULL = "third level with slots 0 to 5200"
 ODD_TREE = "full third level, tree 15 under 32767"
 ODD_TOP, LOW_TOP = "empty third level under summary 1", "full third level under summary 32767"
 UNTOLD = "third level with slot 0, under no summary"
+LARGE_UNMARKED = "full third level, tree 15 with full mark 32767"
+LARGE_OVERMARKED = "empty third level, tree 0 with full mark 1"
+NEXT_MARKED = "third level with slots 960 to 1023, marked in tree 1"
+LARGE_COUNT_HIGH = "empty third level, tree 15 with count 1"
+LARGE_COUNT_LOW = "full third level, tree 0 with count 1023"
+EXCHANGED = "third level with slots 1000 to 1099, counts exchanged"
 IDLE, BUSY, ENDED = "empty jobs", "jobs with all slots running", "jobs with all slots reaped"
 ENDED_ONE, BUSY_MOST = "jobs with slot 0 reaped", "jobs with slots 0 to 1022 running"
 BUSY_ACROSS, ENDED_ACROSS = "jobs with slots 60 to 67 running", "jobs with slots 60 to 67 reaped"
 PARTLY = "jobs with slots 60 to 67, of which 62 to 65 reaped"
 IDLE_TOLD, BUSY_UNTOLD = "jobs with no slot under summary 1", "jobs with slot 0 running, under no summary"
 ENDED_HIDDEN = "jobs with all slots reaped under summary 32767"
+ENDED_UNMARKED, UNCOUNTED = "jobs with all slots reaped and full mark 32767", "jobs with slot 0 running and count 0"
 STRAY, STRAY_LAST = "jobs with slot 0 reaped and not used", "jobs with slots 0 to 1022 running, 1023 reaped and not used"
+# what trees store where it is right
+NOTHING, ALL = [0, 0, 0], [65535, 65535, 1024]
 MAPS = {
     EMPTY: Map(64),
     FULL: Map(64, range(64)),
@@ -390,17 +423,30 @@ MAPS = {
     INNER: Map(1024, {70}),
     ACROSS: Map(1024, range(60, 68)),
     MOST: Map(1024, range(1023)),
-    BAD: Map(1024, (), [1]),
-    HIDDEN: Map(1024, range(1024), [32767]),
+    WORDS_FULL: Map(1024, range(960)),
+    BAD: Map(1024, (), [1, 0, 0]),
+    HIDDEN: Map(1024, range(1024), [32767, 65535, 1024]),
+    UNMARKED: Map(1024, range(1024), [65535, 32767, 1024]),
+    OVERMARKED: Map(1024, (), [0, 1, 0]),
+    NEIGHBOUR_MARKED: Map(1024, range(64), [1, 2, 64]),
+    COUNT_HIGH: Map(1024, (), [0, 0, 1]),
+    COUNT_LOW: Map(1024, range(1024), [65535, 65535, 1023]),
     LARGE: Map(16384),
     LARGE_FULL: Map(16384, range(16384)),
     LARGE_ONE: Map(16384, {0}),
     LARGE_ACROSS: Map(16384, range(1000, 1100)),
     LARGE_MOST: Map(16384, range(16383)),
-    ODD_TREE: Map(16384, range(16384), [65535] + 15 * [65535] + [32767]),
-    ODD_TOP: Map(16384, (), [1] + 16 * [0]),
-    LOW_TOP: Map(16384, range(16384), [32767] + 16 * [65535]),
-    UNTOLD: Map(16384, {0}, [0] + 16 * [0]),
+    TREES_FULL: Map(16384, range(5201)),
+    ODD_TREE: Map(16384, range(16384), [65535] + 15 * [ALL] + [[32767, 65535, 1024]]),
+    ODD_TOP: Map(16384, (), [1] + 16 * [NOTHING]),
+    LOW_TOP: Map(16384, range(16384), [32767] + 16 * [ALL]),
+    UNTOLD: Map(16384, {0}, [0] + [[0, 0, 1]] + 15 * [NOTHING]),
+    LARGE_UNMARKED: Map(16384, range(16384), [65535] + 15 * [ALL] + [[65535, 32767, 1024]]),
+    LARGE_OVERMARKED: Map(16384, (), [0] + [[0, 1, 0]] + 15 * [NOTHING]),
+    NEXT_MARKED: Map(16384, range(960, 1024), [1] + [[32768, 0, 64], [0, 1, 0]] + 14 * [NOTHING]),
+    LARGE_COUNT_HIGH: Map(16384, (), [0] + 15 * [NOTHING] + [[0, 0, 1]]),
+    LARGE_COUNT_LOW: Map(16384, range(16384), [65535] + [[65535, 65535, 1023]] + 15 * [ALL]),
+    EXCHANGED: Map(16384, range(1000, 1100), [3] + [[32768, 0, 76], [3, 1, 24]] + 14 * [NOTHING]),
     IDLE: Jobs(),
     BUSY: Jobs(range(1024)),
     ENDED: Jobs((), range(1024)),
@@ -409,9 +455,11 @@ MAPS = {
     BUSY_ACROSS: Jobs(range(60, 68)),
     ENDED_ACROSS: Jobs((), range(60, 68)),
     PARTLY: Jobs({60, 61, 66, 67}, range(62, 66)),
-    IDLE_TOLD: Jobs(told=1),
-    BUSY_UNTOLD: Jobs({0}, told=0),
-    ENDED_HIDDEN: Jobs((), range(1024), told=32767),
+    IDLE_TOLD: Jobs(told=[1, 0, 0]),
+    BUSY_UNTOLD: Jobs({0}, told=[0, 0, 1]),
+    ENDED_HIDDEN: Jobs((), range(1024), told=[32767, 65535, 1024]),
+    ENDED_UNMARKED: Jobs((), range(1024), told=[65535, 32767, 1024]),
+    UNCOUNTED: Jobs({0}, told=[1, 0, 0]),
     STRAY: Jobs(stray={0}),
     STRAY_LAST: Jobs(range(1023), stray={1023}),
 }
@@ -536,18 +584,28 @@ for name, slot in ((PACKED, 1023), (PACKED, 1024), (BARE, 0), (MOST, 1022), (MOS
 for name in (BARE, PACKED, MOST):
     counts(name)
 
-# trees whose summary is wrong
-takes(BAD, 0, 10)
-takes(BAD, 1, 0, "take in place")
-claims(BAD, TOP, 2)
-frees(BAD, 0, 0)
-frees(BAD, 1, 1, "free in place")
-sets(BAD, 0, 1, True)
-next_frees(BAD, 1024)
-gets(BAD, 0)
-counts(BAD)
-gets(HIDDEN, 0)
-counts(HIDDEN)
+# full words in front: passed over, marked when a take fills one, no longer marked when a free opens one
+for start in (0, 959, 1023):
+    next_frees(WORDS_FULL, start)
+counts(WORDS_FULL)
+for n, a in ((63, 0), (64, 6), (65, 0)):
+    takes(WORDS_FULL, n, a)
+frees(WORDS_FULL, 0, 1)
+frees(WORDS_FULL, 63, 2)
+sets(WORDS_FULL, 900, 100, True)
+sets(WORDS_FULL, 900, 100, False)
+
+# trees that store something wrong: the summary, the mark of full words or the count
+for name in (BAD, HIDDEN, UNMARKED, OVERMARKED, NEIGHBOUR_MARKED, COUNT_HIGH, COUNT_LOW):
+    takes(name, 0, 10)
+    takes(name, 1, 0, "take in place")
+    claims(name, TOP, 2)
+    frees(name, 0, 0)
+    frees(name, 1, 1, "free in place")
+    sets(name, 0, 1, True)
+    next_frees(name, 1024)
+    gets(name, 0)
+    counts(name)
 
 # the third level
 for n, a in ((16384, 13), (2000, 0), (16385, 13), (16385, 14), (0, 14), (1, 14), (TOP, 0), (1, TOP)):
@@ -582,8 +640,22 @@ for name, slot in ((LARGE_FULL, 16383), (LARGE_FULL, 16384), (LARGE, 0), (LARGE_
 for name in (LARGE, LARGE_FULL, LARGE_ACROSS):
     counts(name)
 
-# third levels of which a summary is wrong: that of a tree, the one over them, or both
-for name in (ODD_TREE, ODD_TOP, LOW_TOP, UNTOLD):
+# full trees in front
+for start in (0, 5119, 16383):
+    next_frees(TREES_FULL, start)
+counts(TREES_FULL)
+takes(TREES_FULL, 47, 0)
+takes(TREES_FULL, 1, 10)
+frees(TREES_FULL, 0, 1024)
+frees(TREES_FULL, 5119, 2)
+sets(TREES_FULL, 5100, 300, True)
+sets(TREES_FULL, 5100, 300, False)
+
+# third levels that are not sound: by the summary of a tree, the one over them, or both; by marks; by counts
+SUMMARIES_WRONG = (ODD_TREE, ODD_TOP, LOW_TOP, UNTOLD)
+MARKS_WRONG = (LARGE_UNMARKED, LARGE_OVERMARKED, NEXT_MARKED)
+COUNTS_WRONG = (LARGE_COUNT_HIGH, LARGE_COUNT_LOW, EXCHANGED)
+for name in SUMMARIES_WRONG + MARKS_WRONG + COUNTS_WRONG:
     takes(name, 0, 14)
     takes(name, 16385, 14)
     claims(name, TOP, 2)
@@ -624,8 +696,8 @@ states(ENDED, 1023)
 for name in (IDLE, BUSY, ENDED, PARTLY):
     counts(name)
 
-# states that are not sound: by the summary, or by a slot that is reaped and not used
-for name in (IDLE_TOLD, BUSY_UNTOLD, ENDED_HIDDEN, STRAY, STRAY_LAST):
+# states that are not sound: by what is stored, or by a slot that is reaped and not used
+for name in (IDLE_TOLD, BUSY_UNTOLD, ENDED_HIDDEN, ENDED_UNMARKED, UNCOUNTED, STRAY, STRAY_LAST):
     starts(name, 0, 10)
     starts(name, 1, 0)
     for call in (reaps, records):
@@ -638,43 +710,16 @@ for name in (IDLE_TOLD, BUSY_UNTOLD, ENDED_HIDDEN, STRAY, STRAY_LAST):
 # the lesson's stories: each call on the map or the state that the one before left
 
 
-def story(name, used, *calls):
-    MAPS[name] = Map(64, used)
-    print(f"{name}: at first, leaves{picture(MAPS[name])}")
-    for call in calls:
-        call(name)
-        left = MAPS[name]
-        try:
-            MAPS[name] = Map(64, call.means(left)[1])
-        except Refused:
-            pass
+def story(name, first, *calls):
+    MAPS[name] = first
+    print(f"{name}: at first, leaves{picture(first)}")
+    for call, *numbers in calls:
+        MAPS[name] = call(name, *numbers) or MAPS[name]
 
 
-class Taking:
-    def __init__(self, n, a):
-        self.n, self.a = n, a
-
-    def __call__(self, name):
-        takes(name, self.n, self.a)
-
-    def means(self, m):
-        return m.take(self.n, self.a)
-
-
-class Freeing:
-    def __init__(self, start, n):
-        self.start, self.n = start, n
-
-    def __call__(self, name):
-        frees(name, self.start, self.n)
-
-    def means(self, m):
-        return m.free(self.start, self.n)
-
-
-story("a second free", (), Taking(4, 2), Freeing(0, 4), Freeing(0, 4), Taking(4, 2), Freeing(0, 4))
-story("a free of no entries", range(6), Freeing(0, 0))
-story("a free at reaping", (), Taking(4, 2), Freeing(0, 4), Taking(4, 2))
+story("a second free", Map(64), (takes, 4, 2), (frees, 0, 4), (frees, 0, 4), (takes, 4, 2), (frees, 0, 4))
+story("a free of no entries", Map(64, range(6)), (frees, 0, 0))
+story("a free at reaping", Map(64), (takes, 4, 2), (frees, 0, 4), (takes, 4, 2))
 
 
 def day(name, *calls):
@@ -697,5 +742,8 @@ day(
     (records, 0, 4),
     (reaps, 0, 4),
 )
-story("free, then take", {0}, Freeing(0, 1), Taking(1, 0))
-story("take, then free", {0}, Taking(1, 0), Freeing(0, 1))
+story("a mark that is cleared", Map(1024, range(64)), (frees, 10, 1), (next_frees, 0), (takes, 1, 0))
+OPENED = set(range(64)) - {10}
+story("a mark that stays", Map(1024, OPENED, [1, 1, 63]), (next_frees, 0), (takes, 1, 0))
+story("free, then take", Map(64, {0}), (frees, 0, 1), (takes, 1, 0))
+story("take, then free", Map(64, {0}), (takes, 1, 0), (frees, 0, 1))

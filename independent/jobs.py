@@ -1,36 +1,35 @@
-"""Jobs once more, worked out from the sentences of request Three, and of document 01 for the take that a start is.
+"""Jobs once more, worked out from the sentences of request Three, of document 01 for the take that a start is, and of
+request Four for what is stored beside the slots.
 
-It has neither code nor layout in common with the crates. A state is 1,024 signs, one for each slot, and sixteen
-signs for what the summary says of each 64 of them. Free, running or reaped slots are so many equal signs in a
-row, and used slots are counted sign by sign. A call gives its answer and the state that it leaves; a refused call
-leaves the very state.
+It has neither code nor layout in common with the crates. A state is 1,024 signs, one for each slot; sixteen signs
+each for what the summary and the mark of full words say of each 64 of them; and the stored count. Free, running or
+reaped slots are so many equal signs in a row, and used slots are counted sign by sign. A call gives its answer and the
+state that it leaves; a refused call leaves the very state.
 """
 import collections
 
 SLOTS, PART = 1024, 64
 # A stray slot is marked as reaped and is not used. No call makes one, but a state from outside can have it.
 FREE, RUNNING, REAPED, STRAY = ".ox!"
-SOME, NONE = "+-"
+YES, NO = "+-"
 
-State = collections.namedtuple("State", "slots summary")
+State = collections.namedtuple("State", "slots summary full count")
 
 
 # ---- states
 
 
-def right_summary(slots):
-    """What a summary has to say: of each 64 slots whether one of them is used."""
+def holding(slots):
+    """The state with these slots, and stored beside them what has to be: of each 64 slots whether one of them is used, and
+    whether each of them is; and how many are used."""
     parts = [slots[at : at + PART] for at in range(0, SLOTS, PART)]
-    return "".join(SOME if RUNNING in part or REAPED in part else NONE for part in parts)
+    some = "".join(YES if RUNNING in part or REAPED in part else NO for part in parts)
+    every = "".join(NO if FREE in part or STRAY in part else YES for part in parts)
+    return State(slots, some, every, slots.count(RUNNING) + slots.count(REAPED))
 
 
 def is_sound(state):
-    return STRAY not in state.slots and state.summary == right_summary(state.slots)
-
-
-def holding(slots):
-    """The state with these slots and a right summary."""
-    return State(slots, right_summary(slots))
+    return STRAY not in state.slots and state == holding(state.slots)
 
 
 def turned(state, start, n, sign):

@@ -1,9 +1,9 @@
 //! A call: its name, its numbers and its map; what is answered; and the bytes in which the program
 //! `compared_calls` reads the one and writes the other.
 
-use crate::map::{Map, THIRD, TREE};
+use crate::map::{Field, Map, OF_TREES, THIRD, TREE};
 
-/// The bytes of a request, and of an answer, in front of the map.
+/// The bytes of a request, and of an answer, in front of the words, or of the fields of a third level's trees.
 const HEAD: usize = 24;
 
 /// A word map is the first word of a tree.
@@ -182,19 +182,22 @@ impl Request {
 
     /// How many bytes it has, and its answer.
     pub fn size(&self) -> usize {
-        HEAD + 8 * (self.map.trees().len() + self.map.words.len())
+        let trees = if self.map.is_third() { self.map.trees() } else { 0 };
+        HEAD + 8 * (trees + self.map.words.len())
     }
 
     /// Adds its bytes to others.
     pub fn put(&self, bytes: &mut Vec<u8>) {
+        let map = &self.map;
+        // the fields of a tree as one number, the summary lowest
+        let joined =
+            |tree| (0..).zip(OF_TREES).map(|(i, field)| u64::from(map[field][tree]) << (16 * i)).sum();
+        let trees: Vec<u64> = (0..map.trees()).map(joined).collect();
+        let (own, trees) =
+            if map.is_third() { (map.summary().into(), &trees[..]) } else { (trees[0], &[][..]) };
         bytes.extend([self.op.code(), self.flag as u8]);
-        bytes.extend(self.map.summary().to_le_bytes());
-        bytes.extend([0; 4]);
-        for number in [self.x, self.y] {
-            bytes.extend(number.to_le_bytes());
-        }
-        let trees = self.map.trees().iter().copied().map(u64::from);
-        for number in trees.chain(self.map.words.iter().copied()) {
+        bytes.extend(&own.to_le_bytes()[..6]);
+        for number in [self.x, self.y].iter().chain(trees).chain(&map.words) {
             bytes.extend(number.to_le_bytes());
         }
     }
@@ -233,11 +236,14 @@ impl Outcome {
             _ => Answer::Unreadable,
         };
         let mut words: Vec<u64> = (HEAD..bytes.len()).step_by(8).map(number).collect();
-        let trees = if words.len() > TREE { words.drain(..16).collect() } else { Vec::new() };
-        let over = u16::from_le_bytes([bytes[2], bytes[3]]);
-        let summaries = trees.iter().map(|&summary| summary as u16).chain([over]).collect();
-        let wide = trees.iter().any(|summary| *summary > u64::from(u16::MAX));
-        let unused = bytes[1] != 0 || bytes[4..8] != [0; 4] || number(16) != 0 || wide;
-        Outcome { answer: if unused { Answer::Unreadable } else { answer }, map: Map { words, summaries } }
+        let own = vec![number(0) >> 16];
+        let (trees, over) =
+            if words.len() > TREE { (words.drain(..TREE).collect(), own) } else { (own, Vec::new()) };
+        let part = |joined: &[u64], i| joined.iter().map(|fields| (fields >> (16 * i)) as u16).collect();
+        let map = Map::of(words).with(Field::Over, part(&over, 0));
+        let map = (0..).zip(OF_TREES).fold(map, |map, (i, field)| map.with(field, part(&trees, i)));
+        let wide = trees.iter().any(|fields| fields >> 48 != 0) || over.iter().any(|over| over >> 16 != 0);
+        let unused = bytes[1] != 0 || number(16) != 0 || wide;
+        Outcome { answer: if unused { Answer::Unreadable } else { answer }, map }
     }
 }

@@ -1,8 +1,10 @@
-//! The calls that are always made: every small case of the word and of the helpers, and the boundaries of the tree
-//! and of the third level. A family of calls is made from the numbers given to it, so that the list can have fewer.
+//! The calls that are made in every run: every small case of the word and of the helpers, the boundaries of the tree
+//! and of the third level, and unsound maps. A family of calls is made from the numbers given to it, so that the list can
+//! have fewer.
 
 use crate::calls::{Act, Layout, Op, Request, Way};
-use crate::map::{Map, THIRD, TREE};
+use crate::map::{Map, OF_TREES, THIRD, TREE};
+use crate::unsound;
 
 /// Makes a call; hands back the map that a series goes on with, or nothing once enough calls are made.
 pub type Make<'a> = &'a mut dyn FnMut(Request) -> Option<Map>;
@@ -61,21 +63,6 @@ pub fn third_maps() -> Vec<Map> {
         Map::of(turns.collect()),
     ]);
     maps
-}
-
-/// Maps of a third level whose summaries are at odds: that of one tree, with a bit too many or too few, or the one over
-/// the trees alone.
-pub fn odd_thirds() -> Vec<Map> {
-    let some = Map::only(THIRD, &[(16, 1), (239, 1 << 63)]);
-    vec![
-        Map::empty(THIRD).turned(3, 1),
-        Map::full(THIRD).turned(15, 1 << 15),
-        some.clone().turned(1, 1),
-        some.clone().turned(14, 1),
-        Map::empty(THIRD).turned(16, 1),
-        Map::full(THIRD).turned(16, 1 << 15),
-        some.turned(16, 1 << 14),
-    ]
 }
 
 /// Numbers around each multiple of the sixteenth of a size up to it, and far past it.
@@ -137,6 +124,20 @@ pub fn questions(make: Make, layout: Layout, maps: &[Map], places: &[u64]) -> Op
         make(Request::new(Op::Slots(layout, Act::Used), 0, 0, map.clone()))?;
     }
     Some(())
+}
+
+/// Each call of a layout, as far as these numbers go.
+pub fn each(
+    make: Make,
+    layout: Layout,
+    maps: &[Map],
+    starts: &[u64],
+    entries: &[u64],
+    exponents: &[u64],
+) -> Option<()> {
+    ranges(make, layout, maps, starts, entries)?;
+    takes(make, layout, maps, entries, exponents)?;
+    questions(make, layout, maps, starts)
 }
 
 /// Take and free in place, as far as these numbers go.
@@ -209,11 +210,13 @@ pub fn wide_numbers() -> Vec<u64> {
     numbers
 }
 
-/// Each word map, with other words and a summary that a word call must hand back as they are.
+/// Each word map, with other words and fields that a word call must hand back as they are.
 fn word_maps() -> Vec<Map> {
-    let with = |word| Map {
-        words: (0..TREE).map(|i| if i == 0 { word } else { 0x0101_0101_0101_0101 * i as u64 }).collect(),
-        summaries: vec![0xa5c3],
+    let with = |word| {
+        let others = (1..TREE as u64).map(|i| 0x0101_0101_0101_0101 * i);
+        let map = Map::of([word].into_iter().chain(others).collect());
+        let fields = OF_TREES.into_iter().zip([0xa5c3, 0x3c5a, 0x9669]);
+        fields.fold(map, |map, (field, value)| map.with_one(field, 0, value))
     };
     WORDS.map(with).to_vec()
 }
@@ -234,7 +237,11 @@ pub fn all(make: Make) -> Option<()> {
     overlaps(make, &[0, 1, 2, 3, 1 << 63, TOP - 1, TOP])?;
     let trees = boundary_maps(TREE);
     boundaries(make, Layout::Tree, &trees)?;
-    in_place(make, &trees, &places(1024), &entries(1024), &exponents(Layout::InPlace))
+    in_place(make, &trees, &places(1024), &entries(1024), &exponents(Layout::InPlace))?;
+    let trees = unsound::maps(TREE);
+    let (starts, entries, exponents) = ([0, 1, 64, 1023, 1024], [0, 1, 64, 1024, 1025], [0, 9, 10]);
+    each(make, Layout::Tree, &trees, &starts, &entries, &exponents)?;
+    in_place(make, &trees, &starts, &entries, &exponents)
 }
 
 /// Those of the third level.
@@ -243,21 +250,14 @@ pub fn thirds(make: Make) -> Option<()> {
     boundaries(make, Layout::Third, &maps)?;
     // at the boundaries of words within a tree
     let (starts, entries) = ([63, 64, 65, 16319, 16320], [1, 2, 63, 64, 65, 129]);
-    ranges(make, Layout::Third, &maps, &starts, &entries)?;
-    takes(make, Layout::Third, &maps, &entries, &[0, 6])?;
-    questions(make, Layout::Third, &maps, &starts)?;
-    // with a summary at odds
-    let maps = odd_thirds();
-    let (starts, entries) = ([0, 1, 1023, 1024, 16383, 16384], [0, 1, 1024, 16384, 16385]);
-    ranges(make, Layout::Third, &maps, &starts, &entries)?;
-    takes(make, Layout::Third, &maps, &entries, &[0, 13, 14])?;
-    questions(make, Layout::Third, &maps, &starts)
+    each(make, Layout::Third, &maps, &starts, &entries, &[0, 6])?;
+    let maps = unsound::maps(THIRD);
+    let (starts, entries) = ([0, 1023, 1024, 16384], [0, 1, 1025, 16385]);
+    each(make, Layout::Third, &maps, &starts, &entries, &[0, 13, 14])
 }
 
 /// The calls of a layout at its boundaries.
 fn boundaries(make: Make, layout: Layout, maps: &[Map]) -> Option<()> {
     let (places, entries) = (places(layout.capacity()), entries(layout.capacity()));
-    ranges(make, layout, maps, &places, &entries)?;
-    takes(make, layout, maps, &entries, &exponents(layout))?;
-    questions(make, layout, maps, &places)
+    each(make, layout, maps, &places, &entries, &exponents(layout))
 }

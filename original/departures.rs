@@ -2,7 +2,7 @@
 //! Each has a rule of its own, which says what the original does there; its name has the refusal's number.
 
 use crate::calls::{Act, Answer, Layout, Op, Outcome, Request, Way};
-use crate::map::Map;
+use crate::map::{Map, SUMMARIES};
 use crate::source;
 
 /// A call with what the original and ours made of it.
@@ -18,7 +18,7 @@ type Rule = fn(&Met) -> bool;
 pub const OF_MAPS: usize = 6;
 
 pub const LIST: [(&str, Rule); 9] = [
-    ("1: a summary at odds", departure_1_unsound),
+    ("1: a summary, a mark of full words or a count at odds", departure_1_unsound),
     ("2: no entries, and nothing changes", departure_2_no_entries),
     ("2: a take of no entries finds no start", departure_2_no_start),
     ("4: set or free past the end is cut off, but for the word's", departure_4_past_the_end),
@@ -34,20 +34,23 @@ pub fn place(met: &Met) -> Option<usize> {
     LIST.iter().position(|(_, accepts)| accepts(met))
 }
 
-/// The original never asks whether a summary fits: it answers as on the sound map of the same words and leaves the same
-/// words; only `empty` reads a summary, the one over all. A summary bit stays as it came or is made to fit what is
-/// below it.
+/// The original never asks whether a summary fits, and it has no marks of full words and no counts: it answers as on the
+/// sound map of the same words and leaves the same words; only `empty` reads a summary, the one over all. A summary bit
+/// stays as it came or is made to fit what is below it.
 fn departure_1_unsound(met: &Met) -> bool {
     let Op::Slots(Layout::Tree | Layout::InPlace | Layout::Third, act) = met.request.op else { return false };
     let (before, after) = (&met.request.map, &met.original.map);
     let sound = source::carried_out(&Request { map: Map::of(before.words.clone()), ..met.request.clone() });
     let answer = if act == Act::Empty { Answer::Truth(before.summary() == 0) } else { sound.answer };
-    let bits = before.summaries.iter().zip(&after.summaries).zip(after.odds());
+    let keeps_or_fits = |field| {
+        let mut bits = before[field].iter().zip(after.pairs(field));
+        bits.all(|(before, (after, fits))| (before ^ after) & (after ^ fits) == 0)
+    };
     met.ours.answer == Answer::Refused(1)
         && !before.is_sound()
         && met.original.answer == answer
         && after.words == sound.map.words
-        && bits.into_iter().all(|((before, after), odds)| (before ^ after) & odds == 0)
+        && SUMMARIES.into_iter().all(keeps_or_fits)
 }
 
 /// A call of no entries past the start of a word is accepted and changes nothing; so is one that starts past
@@ -142,7 +145,7 @@ fn departure_10_interval(met: &Met) -> bool {
         && met.original.answer == Answer::Truth(x <= last && first <= y)
 }
 
-/// The call's map with this value from start up to, not including, end; the summaries fit it, but for the word's.
+/// The call's map with this value from start up to, not including, end; the fields fit it, but for the word's.
 fn painted(request: &Request, start: u64, end: u64, value: bool) -> Map {
     let mut map = request.map.clone();
     map.paint(start, end, value);

@@ -1,6 +1,6 @@
 //! Random numbers, the same for the same seed, and random maps.
 
-use crate::map::{Map, THIRD};
+use crate::map::{Field, Map, FIELDS, OF_TREES, THIRD};
 
 pub struct Dice(u64);
 
@@ -49,24 +49,54 @@ pub fn sound(dice: &mut Dice, words: usize) -> Map {
     }
 }
 
-/// A sound map with some bits of a summary turned: one, a few or all.
+/// A sound map with another value of a field, at times of two.
 pub fn unsound(dice: &mut Dice, words: usize) -> Map {
-    let map = sound(dice, words);
-    let place = summary(dice, map.trees().len());
-    let bits = match dice.below(4) {
-        0 | 1 => 1 << dice.below(16),
-        2 => (dice.number() as u16).max(1),
-        _ => u16::MAX,
-    };
-    map.turned(place, bits)
+    let mut map = sound(dice, words);
+    for _ in 0..dice.among(&[1, 1, 1, 2]) {
+        spoil(dice, &mut map);
+    }
+    while map.is_sound() {
+        spoil(dice, &mut map);
+    }
+    map
 }
 
-/// The place of a summary: the one over all, or as often that of one of so many trees.
-fn summary(dice: &mut Dice, trees: usize) -> usize {
-    if trees == 0 || dice.one_in(2) {
-        trees
-    } else {
-        dice.below(trees as u64) as usize
+/// Another value of a field at one place, at times that of another tree in exchange; now and then it is the one that was
+/// there.
+fn spoil(dice: &mut Dice, map: &mut Map) {
+    let fields = if map.is_third() { &FIELDS[..] } else { &OF_TREES[..] };
+    let field = dice.among(fields);
+    let places = map[field].len();
+    let any = dice.below(places as u64) as usize;
+    let place = dice.among(&[0, any, places - 1]);
+    let value = map[field][place];
+    match field {
+        _ if dice.one_in(8) => map[field].swap(place, any),
+        Field::Count => map[field][place] = other_count(dice, value),
+        _ => map[field][place] = other_bits(dice, value),
+    }
+}
+
+/// Some bits turned, one, a few or all, or one moved to a place beside it.
+fn other_bits(dice: &mut Dice, bits: u16) -> u16 {
+    let edges: Vec<u32> = (0..15).filter(|i| matches!(bits >> i & 0b11, 0b01 | 0b10)).collect();
+    match dice.below(8) {
+        0..=2 if !edges.is_empty() => bits ^ 0b11 << dice.among(&edges),
+        0..=5 => bits ^ 1 << dice.below(16),
+        6 => bits ^ dice.number() as u16,
+        _ => !bits,
+    }
+}
+
+/// One more, one less, the least, the greatest or any.
+fn other_count(dice: &mut Dice, count: u16) -> u16 {
+    match dice.below(6) {
+        0 => count.wrapping_add(1),
+        1 => count.wrapping_sub(1),
+        2 => 0,
+        3 => u16::MAX,
+        4 => count ^ 1 << dice.below(16),
+        _ => dice.number() as u16,
     }
 }
 

@@ -3,8 +3,8 @@
 use crate::calls::{Act, Layout, Op, Outcome, Request, Way};
 use crate::cases::{self, Make, TOP};
 use crate::dice::Dice;
-use crate::map::{Map, TREE};
-use crate::{helpers, random, rules, show, source};
+use crate::map::{Field, Map, THIRD, TREE};
+use crate::{helpers, random, rules, show, source, unsound};
 use std::fmt::Write;
 
 const HEAD: &str = "\
@@ -12,20 +12,21 @@ const HEAD: &str = "\
 #
 #     tests/compare-original --seed SEED --list > tests/original.list
 #
-# tests/replay-original makes the same calls and compares. Numbers are decimal, words and summaries hex.
+# tests/replay-original makes the same calls and compares. Numbers are decimal; words, summaries and marks are hex.
 #
 # `map` says the map of the calls below it: the words that are not 0, place:word, equal words in a row as
-# first-last:word, `-` for none; after them /summary where the summary does not fit the words. A word call is
-# made on word 0. `map third` is one of 256 words: /tree:summary is the summary of a tree and /summary the one over
-# them, where it is not that of the sound map.
+# first-last:word, `-` for none. After them come its fields, each only where it does not fit the words: /summary, full/mark
+# for the mark of full words, count/number. A word call is made on word 0. `map third` is one of 256 words:
+# /tree:summary, full/tree:mark and count/tree:number are of a tree and /summary is the one over them, where it is not
+# that of the sound map.
 #
 # CALL = ANSWER; CHANGE is a call on that map. The numbers of a call: take N EXPONENT; claim, free START N;
 # set START N on|off; next_free START; get SLOT; align_.., is_aligned_.. VALUE ALIGNMENT; overlap FIRST LAST
 # FIRST LAST, on an empty map of its own; mask START END; the others have one or none. The answer is done, a
 # number, yes or no, `not found` for the original's None, or `none: REASON` where it has no answer. The
 # change, of a call that may change its map, is `same`, or the words that are others than before and
-# each summary that is another. `then` before a call: its map, and that of the calls below it, is what the
-# line above left.
+# each summary that is another; the original has no other fields. `then` before a call: its map, and that of the calls
+# below it, is what the line above left, with the marks and the counts that fit.
 ";
 
 /// The list made with this seed.
@@ -84,7 +85,7 @@ fn calls(seed: u64, make: Make) -> Option<()> {
     smallest_departures(make)?;
     word_calls(make)?;
     tree_calls(make)?;
-    odd_summaries(make)?;
+    unsound_calls(make)?;
     helper_calls(make)?;
     random_calls(seed, make)?;
     third_calls(make)?;
@@ -96,10 +97,12 @@ fn smallest_departures(make: Make) -> Option<()> {
     let tree = |act, x, y, map| Request::new(Op::Slots(Layout::Tree, act), x, y, map);
     let word = |act, x, y, map| Request::new(Op::Slots(Layout::Word, act), x, y, map);
     let (empty, full) = (|| Map::empty(TREE), || Map::full(TREE));
-    let at_odds = || empty().turned(0, 1);
+    let at_odds = |field| empty().turned(field, 0, 1);
     let calls = [
-        tree(Act::Empty, 0, 0, at_odds()),
-        tree(Act::Get, 0, 0, at_odds()),
+        tree(Act::Empty, 0, 0, at_odds(Field::Summary)),
+        tree(Act::Get, 0, 0, at_odds(Field::Summary)),
+        tree(Act::NextFree, 0, 0, at_odds(Field::Full)),
+        tree(Act::Used, 0, 0, at_odds(Field::Count)),
         tree(Act::Free, 1, 0, full()),
         word(Act::Free, 0, 0, full()),
         tree(Act::Take, 0, 10, empty()),
@@ -145,15 +148,19 @@ fn tree_calls(make: Make) -> Option<()> {
     cases::in_place(make, &maps[..3], &starts, &entries, &[0, 5, 9, 10])
 }
 
-fn odd_summaries(make: Make) -> Option<()> {
+/// On trees with a summary at odds, and fewer on one of each kind of unsound tree.
+fn unsound_calls(make: Make) -> Option<()> {
     let some = Map::only(TREE, &[(0, 1), (15, 1 << 63)]);
-    let maps = [Map::empty(TREE).turned(0, 1), Map::full(TREE).turned(0, 1 << 15), some.turned(0, 0x0006)];
-    let entries = [0, 1, 64, 1024, 1025];
-    cases::ranges(make, Layout::Tree, &maps, &[0, 1, 64, 1023, 1024], &entries)?;
-    cases::takes(make, Layout::Tree, &maps, &entries, &[0, 9, 10])?;
-    cases::questions(make, Layout::Tree, &maps, &[0, 63, 64, 1023, 1024])?;
-    cases::questions(make, Layout::Word, &maps, &[0, 63, 64])?;
-    cases::in_place(make, &maps, &[0, 1, 1023, 1024], &entries, &[0, 9, 10])
+    let turned = [(Map::empty(TREE), 1), (Map::full(TREE), 1 << 15), (some, 0x0006)];
+    let maps = turned.map(|(map, bits)| map.turned(Field::Summary, 0, bits));
+    unsound_trees(make, &maps, &[0, 1, 64, 1023, 1024], &[0, 1, 64, 1024, 1025], &[0, 9, 10])?;
+    unsound_trees(make, &unsound::one_of_each(TREE), &[0, 1024], &[0, 1, 65], &[0, 10])
+}
+
+fn unsound_trees(make: Make, maps: &[Map], starts: &[u64], entries: &[u64], exponents: &[u64]) -> Option<()> {
+    cases::each(make, Layout::Tree, maps, starts, entries, exponents)?;
+    cases::questions(make, Layout::Word, maps, &[0, 63, 64])?;
+    cases::in_place(make, maps, starts, entries, exponents)
 }
 
 fn helper_calls(make: Make) -> Option<()> {
@@ -175,7 +182,7 @@ fn random_calls(seed: u64, make: Make) -> Option<()> {
     }
     for _ in 0..4 {
         random::any_boundaries(&mut dice, make)?;
-        random::any_odd_summaries(&mut dice, make)?;
+        random::any_unsound(&mut dice, make)?;
         helpers::some(&mut dice, make)?;
     }
     Some(())
@@ -188,10 +195,10 @@ fn third_calls(make: Make) -> Option<()> {
     cases::takes(make, Layout::Third, &maps, &[1, 1025, 16384], &[0, 13])?;
     cases::takes(make, Layout::Third, &maps[..2], &[0, 1, 16384, 16385, TOP], &[0, 13, 14, TOP])?;
     cases::questions(make, Layout::Third, &maps, &[0, 1023, 16383, 16384])?;
-    let odd = cases::odd_thirds();
-    cases::ranges(make, Layout::Third, &odd, &[1023], &[1, 2])?;
-    cases::takes(make, Layout::Third, &odd, &[0, 1], &[0, 13])?;
-    cases::questions(make, Layout::Third, &odd, &[0, 16384])
+    let maps = unsound::one_of_each(THIRD);
+    cases::ranges(make, Layout::Third, &maps, &[1023], &[1, 2])?;
+    cases::takes(make, Layout::Third, &maps, &[0, 1], &[0, 13])?;
+    cases::questions(make, Layout::Third, &maps, &[0, 16384])
 }
 
 /// A random series of the third level on each of some maps.

@@ -21,6 +21,7 @@ mod shrink;
 mod source;
 mod stubs;
 mod tally;
+mod unsound;
 
 use calls::{Outcome, Request};
 use cases::Make;
@@ -56,8 +57,13 @@ struct Part {
     seed: u64,
 }
 
-/// A call and what the original made of it.
-type Made = (Request, Outcome);
+/// A call, what the original made of it, and whether it is made in every run.
+#[derive(Clone)]
+struct Made {
+    request: Request,
+    original: Outcome,
+    fixed: bool,
+}
 
 fn main() {
     source::keep_panics_silent();
@@ -100,7 +106,7 @@ impl Part {
         }
     }
 
-    /// From so many calls on, each kind of call and each departure has to be among them.
+    /// From so many calls on, each kind of call, of departure and of unsound map has to be among them.
     fn enough(self) -> u64 {
         if self.third {
             200_000
@@ -109,11 +115,21 @@ impl Part {
         }
     }
 
-    fn made(self, make: Make) -> Option<()> {
+    /// Makes the calls that are made in every run.
+    fn fixed(self, make: Make) -> Option<()> {
         if self.third {
-            cases::thirds(make).and_then(|()| random::thirds(self.seed, make))
+            cases::thirds(make)
         } else {
-            cases::all(make).and_then(|()| random::all(self.seed, make))
+            cases::all(make)
+        }
+    }
+
+    /// Makes the random ones.
+    fn random(self, make: Make) -> Option<()> {
+        if self.third {
+            random::thirds(self.seed, make)
+        } else {
+            random::all(self.seed, make)
         }
     }
 }
@@ -169,24 +185,25 @@ fn make_calls(part: Part, judge: Sender<Vec<Made>>, mut input: ChildStdin) {
     let mut made = 0;
     let mut block: Vec<Made> = Vec::with_capacity(BLOCK);
     let mut hand_over = |block: &mut Vec<Made>| {
-        let bytes = program::bytes_of(block.iter().map(|(request, _)| request));
+        let bytes = program::bytes_of(block.iter().map(|made| &made.request));
         judge.send(std::mem::replace(block, Vec::with_capacity(BLOCK))).ok()?;
         input.write_all(&bytes).ok()
     };
-    let mut make = |request: Request| {
+    let mut make = |request: Request, fixed: bool| {
         if made == part.calls {
             return None;
         }
         made += 1;
         let original = source::carried_out(&request);
         let left = rules::went_on(&request, &original).clone();
-        block.push((request, original));
+        block.push(Made { request, original, fixed });
         if block.len() == BLOCK {
             hand_over(&mut block)?;
         }
         Some(left)
     };
-    let _ = part.made(&mut make);
+    let fixed = part.fixed(&mut |request| make(request, true));
+    let _ = fixed.and_then(|()| part.random(&mut |request| make(request, false)));
     let _ = hand_over(&mut block);
 }
 
@@ -196,16 +213,16 @@ fn first_difference(
     tally: &mut Tally,
 ) -> Result<Option<Difference>, String> {
     for block in blocks {
-        let answers = program.answers(block.iter().map(|(request, _)| request))?;
+        let answers = program.answers(block.iter().map(|made| &made.request))?;
         let unanswered = block.get(answers.len()).cloned();
-        for ((request, original), ours) in block.into_iter().zip(answers) {
+        for (Made { request, original, fixed }, ours) in block.into_iter().zip(answers) {
             let verdict = rules::judged(&request, &original, &ours);
-            tally.note(&request, verdict);
+            tally.note(&request, fixed, verdict);
             if verdict == Verdict::Unlisted {
                 return Ok(Some(Difference { request, original, ours }));
             }
         }
-        if let Some((request, _)) = unanswered {
+        if let Some(Made { request, .. }) = unanswered {
             let place = tally.calls + 1;
             return Err(format!(
                 "the program ends before its answer to call {place}: {}",

@@ -1,11 +1,11 @@
-//! The random calls: series of calls on a map that goes on, calls at the boundaries, and calls on maps with a
-//! summary at odds; the helpers' come between them.
+//! The random calls: series of calls on a map that goes on, calls at the boundaries, and calls on unsound maps; the
+//! helpers' come between them.
 
 use crate::calls::{Act, Layout, Op, Request};
 use crate::cases::Make;
 use crate::dice::{self, Dice};
 use crate::helpers;
-use crate::map::{Map, THIRD, TREE};
+use crate::map::{Map, OF_TREES, THIRD, TREE};
 
 /// Goes on until enough calls are made, but for those of the third level.
 pub fn all(seed: u64, make: Make) -> Option<()> {
@@ -14,7 +14,7 @@ pub fn all(seed: u64, make: Make) -> Option<()> {
         match dice.below(12) {
             0..=7 => any_series(&mut dice, make)?,
             8 => any_boundaries(&mut dice, make)?,
-            9 => any_odd_summaries(&mut dice, make)?,
+            9 => any_unsound(&mut dice, make)?,
             _ => helpers::some(&mut dice, make)?,
         }
     }
@@ -27,7 +27,7 @@ pub fn thirds(seed: u64, make: Make) -> Option<()> {
         match dice.below(10) {
             0..=7 => third_series(&mut dice, make)?,
             8 => boundaries(&mut dice, Layout::Third, make)?,
-            _ => odd_summaries(&mut dice, Layout::Third, make)?,
+            _ => unsound(&mut dice, Layout::Third, make)?,
         }
     }
 }
@@ -88,7 +88,7 @@ pub fn any_series(dice: &mut Dice, make: Make) -> Option<()> {
     let style = Style::any(dice);
     let mut map = dice::sound(dice, TREE);
     if style.layout == Layout::Word {
-        map.summaries = vec![dice.number() as u16];
+        OF_TREES.into_iter().for_each(|field| map[field] = vec![dice.number() as u16]);
     }
     series(dice, &style, map, make)
 }
@@ -221,15 +221,15 @@ fn exponent(dice: &mut Dice, third: bool) -> u64 {
     }
 }
 
-// ---- summaries at odds
+// ---- unsound maps
 
-/// Calls of each kind on maps with a summary that does not fit.
-pub fn any_odd_summaries(dice: &mut Dice, make: Make) -> Option<()> {
+/// Calls of each kind on unsound maps.
+pub fn any_unsound(dice: &mut Dice, make: Make) -> Option<()> {
     let layout = dice.among(&[Layout::Tree, Layout::InPlace]);
-    odd_summaries(dice, layout, make)
+    unsound(dice, layout, make)
 }
 
-pub fn odd_summaries(dice: &mut Dice, layout: Layout, make: Make) -> Option<()> {
+pub fn unsound(dice: &mut Dice, layout: Layout, make: Make) -> Option<()> {
     let style = Style::wide(layout);
     for _ in 0..4 {
         let map = dice::unsound(dice, layout.words());

@@ -1,7 +1,7 @@
 //! Calls, maps and answers as text, the same in the list and in what is printed of a difference.
 
 use crate::calls::{Act, Answer, Op, Request};
-use crate::map::{Map, THIRD};
+use crate::map::{Field, Map, FIELDS, SUMMARIES};
 
 /// The call's name and numbers.
 pub fn call(request: &Request) -> String {
@@ -30,20 +30,20 @@ pub fn answer(answer: &Answer) -> String {
     }
 }
 
-/// The words that are not 0, in hex, and the summaries that are not those of the sound map.
+/// The words that are not 0, in hex, and the fields that are not those of the sound map.
 pub fn map(map: &Map) -> String {
-    let size = if map.words.len() == THIRD { "third " } else { "" };
+    let size = if map.is_third() { "third " } else { "" };
     let sound = Map::of(map.words.clone());
-    size.to_string() + &parts(map, |i| map.words[i] != 0, &sound, "-")
+    size.to_string() + &parts(map, |i| map.words[i] != 0, &FIELDS, &sound, "-")
 }
 
-/// The words and the summaries that are others than before.
+/// What the original changes: the words and the summaries that are others than before.
 pub fn change(before: &Map, after: &Map) -> String {
-    parts(after, |i| after.words[i] != before.words[i], before, "same")
+    parts(after, |i| after.words[i] != before.words[i], &SUMMARIES, before, "same")
 }
 
-/// Equal words in a row share a part. A summary is told where that map has another.
-fn parts(map: &Map, shown: impl Fn(usize) -> bool, than: &Map, nothing: &str) -> String {
+/// Equal words in a row share a part. Of these fields a value is told where that map has another.
+fn parts(map: &Map, shown: impl Fn(usize) -> bool, fields: &[Field], than: &Map, nothing: &str) -> String {
     let words = &map.words;
     let mut parts = Vec::new();
     let mut i = 0;
@@ -58,12 +58,17 @@ fn parts(map: &Map, shown: impl Fn(usize) -> bool, than: &Map, nothing: &str) ->
         }
         i = next;
     }
-    for (i, summary) in map.trees().iter().enumerate().filter(|(i, summary)| **summary != than.summaries[*i])
-    {
-        parts.push(format!("/{i}:{summary:x}"));
-    }
-    if map.summary() != than.summary() {
-        parts.push(format!("/{:x}", map.summary()));
+    for &field in fields {
+        let values = map[field].iter().zip(&than[field]).enumerate();
+        let others = values.filter(|(_, (value, than))| value != than);
+        parts.extend(others.map(|(i, (value, _))| {
+            let place = if map[field].len() == 1 { String::new() } else { format!("{i}:") };
+            match field {
+                Field::Summary | Field::Over => format!("/{place}{value:x}"),
+                Field::Full => format!("full/{place}{value:x}"),
+                Field::Count => format!("count/{place}{value}"),
+            }
+        }));
     }
     if parts.is_empty() {
         nothing.into()

@@ -1,8 +1,8 @@
-//! A difference made small: the request with fewer used slots, smaller numbers and simpler summaries that
+//! A difference made small: the request with fewer used slots, smaller numbers and fields that fit better that
 //! still shows one.
 
 use crate::calls::{Op, Outcome, Request};
-use crate::map::Map;
+use crate::map::{Field, Map, FIELDS};
 use crate::program;
 use crate::rules::{self, Verdict};
 use crate::source;
@@ -68,21 +68,36 @@ fn ends(request: &Request) -> impl Iterator<Item = Map> + '_ {
     places.flat_map(move |i| numbers(request.map.words[i]).map(move |end| with(i, end)))
 }
 
-/// The map without its odd summary bits, and without its used slots in parts of every size.
+/// The map with fields that fit better, and without its used slots in parts of every size.
 fn maps(map: &Map) -> impl Iterator<Item = Map> + '_ {
-    let odds = map.odds().enumerate().filter(|(_, odds)| *odds != 0);
-    let bits = odds.flat_map(|(place, odds)| {
-        let single = (0..16).map(|i| 1 << i).filter(move |bit| odds & bit != 0);
-        [odds].into_iter().chain(single).map(move |bits| (place, bits))
+    let values = FIELDS.into_iter().flat_map(|field| {
+        let odd = map.pairs(field).enumerate().filter(|(_, (value, fits))| value != fits);
+        odd.flat_map(move |(i, (value, fits))| {
+            nearer(field, value, fits).into_iter().map(move |value| (field, i, value))
+        })
     });
-    let simpler = bits.map(|(place, bits)| map.clone().turned(place, bits));
+    let simpler = values.map(|(field, i, value)| map.clone().with_one(field, i, value));
     let sizes = (0..=map.capacity().ilog2()).rev().map(|exponent| 1 << exponent);
     let parts = sizes.flat_map(|size| (0..map.capacity() / size).map(move |i| (size * i, size * (i + 1))));
     simpler.chain(parts.flat_map(|(start, end)| without(map, start, end)))
 }
 
-/// The map without these slots, its summaries at odds where they were or as they were, but no more at odds than
-/// before; nothing where the slots are all free.
+/// Values of a field between this one and the one that fits, that one first.
+fn nearer(field: Field, value: u16, fits: u16) -> Vec<u16> {
+    match field {
+        Field::Count => {
+            let far = numbers(value.abs_diff(fits).into()).map(|far| far as u16);
+            far.map(|far| if value > fits { fits + far } else { fits - far }).collect()
+        }
+        _ => {
+            let odd = (0..16).map(|i| 1 << i).filter(|bit| (value ^ fits) & bit != 0);
+            [fits].into_iter().chain(odd.map(|bit| value ^ bit)).collect()
+        }
+    }
+}
+
+/// The map without these slots, its fields at odds where they were or as they were, but no more at odds than before;
+/// nothing where the slots are all free.
 fn without(map: &Map, start: u64, end: u64) -> Vec<Map> {
     let mut less = map.clone();
     less.paint(start, end, false);
@@ -90,9 +105,22 @@ fn without(map: &Map, start: u64, end: u64) -> Vec<Map> {
         return Vec::new();
     }
     let mut odd = Map::of(less.words.clone());
-    odd.summaries.iter_mut().zip(map.odds()).for_each(|(summary, odds)| *summary ^= odds);
-    let bits = |map: &Map| map.odds().map(u16::count_ones).sum::<u32>();
-    [odd, less].into_iter().filter(|less| bits(less) <= bits(map)).collect()
+    for field in FIELDS {
+        let moved = |(now, (value, fits)): (u16, (u16, u16))| match field {
+            Field::Count => now.wrapping_add(value).wrapping_sub(fits),
+            _ => now ^ value ^ fits,
+        };
+        odd[field] = odd.fitting(field).into_iter().zip(map.pairs(field)).map(moved).collect();
+    }
+    let most = distance(map);
+    [odd, less].into_iter().filter(|less| distance(less) <= most).collect()
+}
+
+/// How far the fields of a map are from those that fit: the bits that differ, and the differences of counts.
+fn distance(map: &Map) -> u32 {
+    let bits = FIELDS.into_iter().filter(|field| *field != Field::Count).flat_map(|field| map.pairs(field));
+    let counts = map.pairs(Field::Count).map(|(value, fits)| u32::from(value.abs_diff(fits)));
+    bits.map(|(value, fits)| (value ^ fits).count_ones()).chain(counts).sum()
 }
 
 /// Smaller numbers, from 0 up to one less.

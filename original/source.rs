@@ -10,7 +10,7 @@ use std::panic;
 /// bitmap_allocator.rs, and beside it the ways into its maps and out of them.
 mod bitmap {
     include!(concat!(env!("ORIGINAL"), "/kernel/src/utils/bitmap_allocator.rs"));
-    use crate::map::Map;
+    use crate::map::{Field, Map};
 
     /// The third level, which has no name in the file.
     pub type BitmapAllocator16384 = BitmapAllocatorTree<BitmapAllocator1024>;
@@ -28,18 +28,21 @@ mod bitmap {
     }
 
     pub fn third_of(map: &Map) -> BitmapAllocator16384 {
-        let tree = |i| tree_of(&map.words[16 * i..], map.trees()[i]);
+        let tree = |i| tree_of(&map.words[16 * i..], map[Field::Summary][i]);
         BitmapAllocatorTree { bits: map.summary(), child: std::array::from_fn(tree) }
     }
 
+    /// With the marks of full words and the counts that its words have: there are none in the file.
     pub fn map_of_tree(tree: &BitmapAllocator1024) -> Map {
-        Map { words: tree.child.iter().map(bits_of).collect(), summaries: vec![tree.bits] }
+        let words = tree.child.iter().map(bits_of).collect();
+        Map::of(words).with(Field::Summary, vec![tree.bits])
     }
 
+    /// The same of a third level.
     pub fn map_of_third(third: &BitmapAllocator16384) -> Map {
-        let words = third.child.iter().flat_map(|tree| tree.child.iter().map(bits_of));
-        let summaries = third.child.iter().map(|tree| tree.bits).chain([third.bits]);
-        Map { words: words.collect(), summaries: summaries.collect() }
+        let words = third.child.iter().flat_map(|tree| tree.child.iter().map(bits_of)).collect();
+        let summaries = third.child.iter().map(|tree| tree.bits).collect();
+        Map::of(words).with(Field::Summary, summaries).with(Field::Over, vec![third.bits])
     }
 }
 

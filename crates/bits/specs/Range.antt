@@ -3,8 +3,8 @@
 use mathlib.Core.Path.{_≡_, refl, sym, ap, ap₂, _∙_}
 use mathlib.Core.Logic.{_↔_, ⊎-elim}
 use mathlib.Core.Bool.{Bool, true, false, not, _&&_, _||_, true≢false, false≢true}
-use Prim.Native.Nat.{ℕ, zero, suc, _+_, _≤_, _<_, zero-le}
-use native.Mathlib.Nat.{le-refl, le-trans, le-suc, le-antisymm, lt-trans, lt-of-not-le, le-of-suc-le-suc, eq-or-lt-of-le, zero-add, add-zero, suc-add, add-suc}
+use Prim.Native.Nat.{ℕ, zero, suc, _+_, _*_, _≤_, _<_, zero-le}
+use native.Mathlib.Nat.{le-refl, le-trans, le-suc, le-antisymm, lt-trans, lt-of-not-le, le-of-suc-le-suc, eq-or-lt-of-le, zero-add, add-zero, suc-add, add-suc, mul-zero, mul-suc, add-comm}
 use native.Mathlib.Omega.{arith}
 use lib.Dec.{T, leb, ltb, not-T}
 use borrow.Author.Tests.{leb-true, ltb-true, le-leb, lt-ltb, le-ltb}
@@ -241,3 +241,11 @@ pub count-split : (test : ℕ → Bool) (s m n : ℕ) → count test s (m + n) �
 unfolding count
 count-split test s zero n = rw (zero-add n, add-zero s, zero-add (count test s n))
 count-split test s (suc m) n = rw (suc-add m n, add-suc s m, sym (suc-add s m), count-split test (suc s) m n) (omega arith)
+
+-- tests that all answer alike
+pub count-same : (test : ℕ → Bool) (b : Bool) (s n : ℕ) → ((i : ℕ) → s ≤ i → i < s + n → test i ≡ b) → count test s n ≡ bit b * n
+unfolding count
+count-same test b s zero h = sym (mul-zero (bit b))
+count-same test b s (suc n) h =
+    ap₂ (λ (c : Bool) (m : ℕ). bit c + m) (h s (le-refl s) (omega arith)) (count-same test b (suc s) n (λ i l lt. h i (omega arith) (omega arith)))
+    ∙ sym (mul-suc (bit b) n ∙ add-comm (bit b * n) (bit b))

@@ -263,10 +263,26 @@ pub fn tree_questions() {
     trees::counts(names::TREE_WITH_SLOTS_0_TO_1022, most);
 }
 
-// Every call but capacity refuses a tree whose summary is at odds with its words, before all else.
-pub fn unsound_trees() {
-    let bad = Tree::new_empty().with_summary(1);
-    let name = names::NO_SLOT_UNDER_SUMMARY_1;
+// Words 0 to 14 are full. A search passes over them; a take that fills word 15 marks it, a free that opens a full word
+// clears its mark, and a set counts anew.
+pub fn full_words() {
+    let map = tree_with(0, 960);
+    let name = names::TREE_WITH_SLOTS_0_TO_959;
+    trees::next_free(name, map, 0);
+    trees::next_free(name, map, 959);
+    trees::next_free(name, map, 1023);
+    trees::counts(name, map);
+    trees::take(name, map, 63, 0);
+    trees::take(name, map, 64, 6);
+    trees::take(name, map, 65, 0);
+    trees::free(name, map, 0, 1);
+    trees::free(name, map, 63, 2);
+    trees::set(name, map, 900, 100, true);
+    trees::set(name, map, 900, 100, false);
+}
+
+// Every call but capacity refuses a tree of which a field is at odds with the words, before all else.
+fn unsound_tree(name: u8, bad: Tree) {
     trees::take(name, bad, 0, 10);
     trees::take_in_place(name, bad, 1, 0);
     trees::claim(name, bad, 18446744073709551615, 2);
@@ -276,9 +292,26 @@ pub fn unsound_trees() {
     trees::next_free(name, bad, 1024);
     trees::get(name, bad, 0);
     trees::counts(name, bad);
-    let hidden = Tree::new_full().with_summary(32767);
-    trees::get(names::ALL_SLOTS_UNDER_SUMMARY_32767, hidden, 0);
-    trees::counts(names::ALL_SLOTS_UNDER_SUMMARY_32767, hidden);
+}
+
+// By the summary, with a bit too many and with one too few; by the mark of full words, with a bit too few, with one too many,
+// and with that of the neighbouring word; and by the count, too high and too low.
+pub fn unsound_trees() {
+    let empty = Tree::new_empty();
+    let full = Tree::new_full();
+    unsound_tree(names::NO_SLOT_UNDER_SUMMARY_1, empty.with_summary(1));
+    unsound_tree(
+        names::ALL_SLOTS_UNDER_SUMMARY_32767,
+        full.with_summary(32767),
+    );
+    unsound_tree(names::FULL_TREE_WITH_FULL_MARK_32767, full.with_full(32767));
+    unsound_tree(names::EMPTY_TREE_WITH_FULL_MARK_1, empty.with_full(1));
+    unsound_tree(
+        names::TREE_WITH_SLOTS_0_TO_63_FULL_MARK_2,
+        tree_with(0, 64).with_full(2),
+    );
+    unsound_tree(names::EMPTY_TREE_WITH_COUNT_1, empty.with_count(1));
+    unsound_tree(names::FULL_TREE_WITH_COUNT_1023, full.with_count(1023));
 }
 
 // ---- the third level
@@ -400,7 +433,23 @@ pub fn third_questions() {
     thirds::counts(names::THIRD_WITH_SLOTS_1000_TO_1099, across);
 }
 
-// Every call but capacity refuses a map of which a summary is wrong, before all else.
+// Trees 0 to 4 are full, and word 0 of tree 5.
+pub fn full_trees() {
+    let map = third_with(0, 5201);
+    let name = names::THIRD_WITH_SLOTS_0_TO_5200;
+    thirds::next_free(name, map, 0);
+    thirds::next_free(name, map, 5119);
+    thirds::next_free(name, map, 16383);
+    thirds::counts(name, map);
+    thirds::take(name, map, 47, 0);
+    thirds::take(name, map, 1, 10);
+    thirds::free(name, map, 0, 1024);
+    thirds::free(name, map, 5119, 2);
+    thirds::set(name, map, 5100, 300, true);
+    thirds::set(name, map, 5100, 300, false);
+}
+
+// Every call but capacity refuses a map of which a tree is not sound, or the summary over them is wrong, before all else.
 fn unsound_third(name: u8, bad: Third) {
     thirds::take(name, bad, 0, 14);
     thirds::take(name, bad, 16385, 14);
@@ -412,8 +461,8 @@ fn unsound_third(name: u8, bad: Third) {
     thirds::counts(name, bad);
 }
 
-// That of one tree alone; the one over them alone, with a bit too many and with one too few; and both.
-pub fn unsound_thirds() {
+// By the summary of one tree alone; by the one over them alone, with a bit too many and with one too few; and by both.
+pub fn unsound_summaries() {
     let full = Third::new_full();
     let mut odd = [u16::MAX; 16];
     odd[15] = 32767;
@@ -433,6 +482,51 @@ pub fn unsound_thirds() {
     unsound_third(
         names::THIRD_WITH_SLOT_0_UNDER_NO_SUMMARY,
         third_with(0, 1).with_summaries(none, 0),
+    );
+}
+
+// By the mark of full words of one tree: a bit too few, one too many, and that of the next word, which is in the next tree.
+pub fn unsound_marks() {
+    let mut fulls = [u16::MAX; 16];
+    fulls[15] = 32767;
+    unsound_third(
+        names::FULL_THIRD_TREE_15_WITH_FULL_MARK_32767,
+        Third::new_full().with_fulls(fulls),
+    );
+    let mut first = [0; 16];
+    first[0] = 1;
+    unsound_third(
+        names::EMPTY_THIRD_TREE_0_WITH_FULL_MARK_1,
+        Third::new_empty().with_fulls(first),
+    );
+    let mut next = [0; 16];
+    next[1] = 1;
+    unsound_third(
+        names::THIRD_WITH_SLOTS_960_TO_1023_MARKED_IN_TREE_1,
+        third_with(960, 64).with_fulls(next),
+    );
+}
+
+// By the count of one tree, too high and too low; and by those of two trees, whose sum is right.
+pub fn unsound_counts() {
+    let mut high = [0; 16];
+    high[15] = 1;
+    unsound_third(
+        names::EMPTY_THIRD_TREE_15_WITH_COUNT_1,
+        Third::new_empty().with_counts(high),
+    );
+    let mut low = [1024; 16];
+    low[0] = 1023;
+    unsound_third(
+        names::FULL_THIRD_TREE_0_WITH_COUNT_1023,
+        Third::new_full().with_counts(low),
+    );
+    let mut exchanged = [0; 16];
+    exchanged[0] = 76;
+    exchanged[1] = 24;
+    unsound_third(
+        names::THIRD_WITH_SLOTS_1000_TO_1099_COUNTS_EXCHANGED,
+        third_with(1000, 100).with_counts(exchanged),
     );
 }
 
@@ -587,7 +681,8 @@ fn unsound_state(name: u8, bad: Jobs) {
     states::counts(name, bad);
 }
 
-// By the summary, with a bit too many and with one too few; and by the first slot and by the last, reaped and not used.
+// By the summary, with a bit too many and with one too few; by the mark of full words and by the count; and by the first slot
+// and by the last, reaped and not used.
 pub fn unsound_jobs() {
     let none = [0; 16];
     unsound_state(
@@ -601,6 +696,14 @@ pub fn unsound_jobs() {
     unsound_state(
         names::JOBS_ALL_REAPED_UNDER_SUMMARY_32767,
         Jobs::holding(Tree::new_full().with_summary(32767), [u64::MAX; 16]),
+    );
+    unsound_state(
+        names::JOBS_ALL_REAPED_WITH_FULL_MARK_32767,
+        Jobs::holding(Tree::new_full().with_full(32767), [u64::MAX; 16]),
+    );
+    unsound_state(
+        names::JOBS_WITH_SLOT_0_RUNNING_AND_COUNT_0,
+        Jobs::holding(tree_with(0, 1).with_count(0), none),
     );
     unsound_state(
         names::JOBS_WITH_SLOT_0_REAPED_AND_NOT_USED,

@@ -2,8 +2,10 @@
 // are made of these lines.
 use crate::names;
 use crate::states;
+use crate::trees;
 use crate::words;
 use jobs::Jobs;
+use tree::Tree;
 use word::Word;
 
 // Slots that are freed twice: at once, and after another has taken them again.
@@ -67,6 +69,27 @@ pub fn shortcuts() {
     jobs = states::started(name, jobs, 4, 2);
     jobs = states::recorded(name, jobs, 0, 4);
     states::reaped(name, jobs, 0, 4);
+}
+
+// A full word that is opened by a free, and filled again by a take.
+pub fn mark_cleared() {
+    let name = names::A_MARK_THAT_IS_CLEARED;
+    let full = Tree::new_empty().claim(0, 64).map;
+    trees::at_first(name, full);
+    trees::free(name, full, 10, 1);
+    let opened = full.free(10, 1).map;
+    trees::next_free(name, opened, 0);
+    trees::take(name, opened, 1, 0);
+}
+
+// The same free, after which the mark still stands.
+pub fn mark_stays() {
+    let name = names::A_MARK_THAT_STAYS;
+    let opened = Tree::new_empty().claim(0, 64).map.free(10, 1).map;
+    let stays = opened.with_full(1);
+    trees::at_first(name, stays);
+    trees::next_free(name, stays, 0);
+    trees::take(name, stays, 1, 0);
 }
 
 // The same two calls in two orders.

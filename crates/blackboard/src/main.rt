@@ -33,6 +33,7 @@ fn main() {
     edges::tree_frees();
     edges::tree_sets();
     edges::tree_questions();
+    edges::full_words();
     edges::unsound_trees();
     edges::third_takes();
     edges::third_takes_around();
@@ -41,7 +42,10 @@ fn main() {
     edges::third_frees();
     edges::third_sets();
     edges::third_questions();
-    edges::unsound_thirds();
+    edges::full_trees();
+    edges::unsound_summaries();
+    edges::unsound_marks();
+    edges::unsound_counts();
     edges::job_starts();
     edges::job_starts_around();
     edges::reaps();
@@ -53,6 +57,8 @@ fn main() {
     lesson::free_at_reaping();
     lesson::same_day_with_jobs();
     lesson::shortcuts();
+    lesson::mark_cleared();
+    lesson::mark_stays();
     lesson::moved_take();
 }
 

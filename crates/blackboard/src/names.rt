@@ -27,67 +27,101 @@ pub const TREE_WITH_SLOTS_0_TO_1022: u8 = 10;
 
 pub const TREE_WITH_SLOTS_60_TO_67: u8 = 11;
 
-pub const NO_SLOT_UNDER_SUMMARY_1: u8 = 12;
+pub const TREE_WITH_SLOTS_0_TO_959: u8 = 12;
 
-pub const ALL_SLOTS_UNDER_SUMMARY_32767: u8 = 13;
+pub const NO_SLOT_UNDER_SUMMARY_1: u8 = 13;
 
-pub const EMPTY_THIRD: u8 = 14;
+pub const ALL_SLOTS_UNDER_SUMMARY_32767: u8 = 14;
 
-pub const FULL_THIRD: u8 = 15;
+pub const FULL_TREE_WITH_FULL_MARK_32767: u8 = 15;
 
-pub const THIRD_WITH_SLOT_0: u8 = 16;
+pub const EMPTY_TREE_WITH_FULL_MARK_1: u8 = 16;
 
-pub const THIRD_WITH_SLOTS_1000_TO_1099: u8 = 17;
+pub const TREE_WITH_SLOTS_0_TO_63_FULL_MARK_2: u8 = 17;
 
-pub const THIRD_WITH_SLOTS_0_TO_16382: u8 = 18;
+pub const EMPTY_TREE_WITH_COUNT_1: u8 = 18;
 
-pub const FULL_THIRD_TREE_15_UNDER_32767: u8 = 19;
+pub const FULL_TREE_WITH_COUNT_1023: u8 = 19;
 
-pub const EMPTY_THIRD_UNDER_SUMMARY_1: u8 = 20;
+pub const EMPTY_THIRD: u8 = 20;
 
-pub const FULL_THIRD_UNDER_SUMMARY_32767: u8 = 21;
+pub const FULL_THIRD: u8 = 21;
 
-pub const THIRD_WITH_SLOT_0_UNDER_NO_SUMMARY: u8 = 22;
+pub const THIRD_WITH_SLOT_0: u8 = 22;
 
-pub const EMPTY_JOBS: u8 = 23;
+pub const THIRD_WITH_SLOTS_1000_TO_1099: u8 = 23;
 
-pub const JOBS_ALL_RUNNING: u8 = 24;
+pub const THIRD_WITH_SLOTS_0_TO_16382: u8 = 24;
 
-pub const JOBS_ALL_REAPED: u8 = 25;
+pub const THIRD_WITH_SLOTS_0_TO_5200: u8 = 25;
 
-pub const JOBS_WITH_SLOT_0_REAPED: u8 = 26;
+pub const FULL_THIRD_TREE_15_UNDER_32767: u8 = 26;
 
-pub const JOBS_WITH_SLOTS_0_TO_1022_RUNNING: u8 = 27;
+pub const EMPTY_THIRD_UNDER_SUMMARY_1: u8 = 27;
 
-pub const JOBS_WITH_SLOTS_60_TO_67_RUNNING: u8 = 28;
+pub const FULL_THIRD_UNDER_SUMMARY_32767: u8 = 28;
 
-pub const JOBS_WITH_SLOTS_60_TO_67_REAPED: u8 = 29;
+pub const THIRD_WITH_SLOT_0_UNDER_NO_SUMMARY: u8 = 29;
 
-pub const JOBS_WITH_SLOTS_60_TO_67_OF_WHICH_62_TO_65_REAPED: u8 = 30;
+pub const FULL_THIRD_TREE_15_WITH_FULL_MARK_32767: u8 = 30;
 
-pub const JOBS_WITH_NO_SLOT_UNDER_SUMMARY_1: u8 = 31;
+pub const EMPTY_THIRD_TREE_0_WITH_FULL_MARK_1: u8 = 31;
 
-pub const JOBS_WITH_SLOT_0_RUNNING_UNDER_NO_SUMMARY: u8 = 32;
+pub const THIRD_WITH_SLOTS_960_TO_1023_MARKED_IN_TREE_1: u8 = 32;
 
-pub const JOBS_ALL_REAPED_UNDER_SUMMARY_32767: u8 = 33;
+pub const EMPTY_THIRD_TREE_15_WITH_COUNT_1: u8 = 33;
 
-pub const JOBS_WITH_SLOT_0_REAPED_AND_NOT_USED: u8 = 34;
+pub const FULL_THIRD_TREE_0_WITH_COUNT_1023: u8 = 34;
 
-pub const JOBS_WITH_SLOT_1023_REAPED_AND_NOT_USED: u8 = 35;
+pub const THIRD_WITH_SLOTS_1000_TO_1099_COUNTS_EXCHANGED: u8 = 35;
 
-pub const A_SECOND_FREE: u8 = 36;
+pub const EMPTY_JOBS: u8 = 36;
 
-pub const A_FREE_OF_NO_ENTRIES: u8 = 37;
+pub const JOBS_ALL_RUNNING: u8 = 37;
 
-pub const A_FREE_AT_REAPING: u8 = 38;
+pub const JOBS_ALL_REAPED: u8 = 38;
 
-pub const THE_SAME_DAY_WITH_JOBS: u8 = 39;
+pub const JOBS_WITH_SLOT_0_REAPED: u8 = 39;
 
-pub const THE_SHORTCUTS: u8 = 40;
+pub const JOBS_WITH_SLOTS_0_TO_1022_RUNNING: u8 = 40;
 
-pub const FREE_THEN_TAKE: u8 = 41;
+pub const JOBS_WITH_SLOTS_60_TO_67_RUNNING: u8 = 41;
 
-pub const TAKE_THEN_FREE: u8 = 42;
+pub const JOBS_WITH_SLOTS_60_TO_67_REAPED: u8 = 42;
+
+pub const JOBS_WITH_SLOTS_60_TO_67_OF_WHICH_62_TO_65_REAPED: u8 = 43;
+
+pub const JOBS_WITH_NO_SLOT_UNDER_SUMMARY_1: u8 = 44;
+
+pub const JOBS_WITH_SLOT_0_RUNNING_UNDER_NO_SUMMARY: u8 = 45;
+
+pub const JOBS_ALL_REAPED_UNDER_SUMMARY_32767: u8 = 46;
+
+pub const JOBS_ALL_REAPED_WITH_FULL_MARK_32767: u8 = 47;
+
+pub const JOBS_WITH_SLOT_0_RUNNING_AND_COUNT_0: u8 = 48;
+
+pub const JOBS_WITH_SLOT_0_REAPED_AND_NOT_USED: u8 = 49;
+
+pub const JOBS_WITH_SLOT_1023_REAPED_AND_NOT_USED: u8 = 50;
+
+pub const A_SECOND_FREE: u8 = 51;
+
+pub const A_FREE_OF_NO_ENTRIES: u8 = 52;
+
+pub const A_FREE_AT_REAPING: u8 = 53;
+
+pub const THE_SAME_DAY_WITH_JOBS: u8 = 54;
+
+pub const THE_SHORTCUTS: u8 = 55;
+
+pub const A_MARK_THAT_IS_CLEARED: u8 = 56;
+
+pub const A_MARK_THAT_STAYS: u8 = 57;
+
+pub const FREE_THEN_TAKE: u8 = 58;
+
+pub const TAKE_THEN_FREE: u8 = 59;
 
 // Prints the words of a number, which are that line of these; one that has none prints nothing.
 pub fn put(k: u8) {
@@ -104,17 +138,30 @@ tree with slot 0
 tree with slot 70
 tree with slots 0 to 1022
 tree with slots 60 to 67
+tree with slots 0 to 959
 no slot under summary 1
 all slots under summary 32767
+full tree with full mark 32767
+empty tree with full mark 1
+tree with slots 0 to 63, full mark 2
+empty tree with count 1
+full tree with count 1023
 empty third level
 full third level
 third level with slot 0
 third level with slots 1000 to 1099
 third level with slots 0 to 16382
+third level with slots 0 to 5200
 full third level, tree 15 under 32767
 empty third level under summary 1
 full third level under summary 32767
 third level with slot 0, under no summary
+full third level, tree 15 with full mark 32767
+empty third level, tree 0 with full mark 1
+third level with slots 960 to 1023, marked in tree 1
+empty third level, tree 15 with count 1
+full third level, tree 0 with count 1023
+third level with slots 1000 to 1099, counts exchanged
 empty jobs
 jobs with all slots running
 jobs with all slots reaped
@@ -126,6 +173,8 @@ jobs with slots 60 to 67, of which 62 to 65 reaped
 jobs with no slot under summary 1
 jobs with slot 0 running, under no summary
 jobs with all slots reaped under summary 32767
+jobs with all slots reaped and full mark 32767
+jobs with slot 0 running and count 0
 jobs with slot 0 reaped and not used
 jobs with slots 0 to 1022 running, 1023 reaped and not used
 a second free
@@ -133,6 +182,8 @@ a free of no entries
 a free at reaping
 the same day with jobs
 the shortcuts
+a mark that is cleared
+a mark that stays
 free, then take
 take, then free
 ",

@@ -1,6 +1,7 @@
-// What a call leaves of a map that has a summary: the runs of used slots, first and last slot of each, and the
-// summary. The same for a tree, for the third level and for a state of jobs, whose reaped slots are said as runs too.
+// What a call leaves of a map that has a summary: the runs of used slots, first and last slot of each, and what is stored
+// beside them. The same for a tree, for the third level and for a state of jobs, whose reaped slots are said as runs too.
 use crate::show;
+use tree::Stored;
 
 // One slot further: where a run of used slots begins or ends, that is printed. Answers whether the
 // slot is used; `last` is the slot before it, and `inside` whether that one is.
@@ -45,6 +46,24 @@ pub fn held(words: &[u64], slots: usize) {
 pub fn left(words: &[u64], slots: usize, summary: u16) {
     show::text(b", leaves");
     held(words, slots);
+    under(summary);
+}
+
+fn under(summary: u16) {
     show::text(b" under summary ");
     show::number(summary as u64);
+}
+
+// What is stored beside the summary: the mark of full words and the count.
+pub fn beside(full: u16, count: u16) {
+    show::text(b", full mark ");
+    show::number(full as u64);
+    show::text(b", count ");
+    show::number(count as u64);
+}
+
+// All that a tree stores.
+pub fn stored(stored: Stored) {
+    under(stored.summary);
+    beside(stored.full, stored.count);
 }

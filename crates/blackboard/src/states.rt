@@ -1,5 +1,5 @@
 // The states of the crate jobs: the state by its name, the call, its answer, and what is then left as a tree shows it. After
-// the summary stand the runs of reaped slots. A refused state is shown too, since all of it can always be read.
+// that stand the runs of reaped slots. A refused state is shown too, since all of it can always be read.
 use crate::asked;
 use crate::names;
 use crate::runs;
@@ -24,6 +24,7 @@ fn left(changed: Changed) {
     let reaped = jobs.reaped();
     answer(said);
     runs::left(&words, 1024, jobs.summary());
+    runs::beside(jobs.full(), jobs.count());
     show::text(b", reaped");
     runs::held(&reaped, 1024);
     show::text(b"\n");

@@ -1,34 +1,60 @@
 // The third level: the map by its name, the call, its answer, and what is then left as a tree shows it. The
-// summary is the one over the trees; after it stand the trees whose own summary is not 0, those side by side
-// that have the same one as first and last. A refused map is shown too.
+// summary is the one over the trees; after it stand the trees that store anything but 0, those side by side that
+// store the same as first and last. A refused map is shown too.
 use crate::asked;
 use crate::runs;
 use crate::show;
 use third::Changed;
 use third::Third;
+use tree::Stored;
+ghost use Prim.Native.Nat.{_<_};
 
-// The trees from `first` to `last`, which have this summary. One that is 0 is not said.
-fn group(first: usize, last: usize, summary: u16) {
-    if summary == 0 {
+// What tree i stores.
+fn stored(map: Third, i: usize) -> Stored
+    requires { ⌜ i < 16 ⌝ }
+{
+    let summaries = map.summaries();
+    let fulls = map.fulls();
+    let counts = map.counts();
+    Stored {
+        summary: summaries[i],
+        full: fulls[i],
+        count: counts[i],
+    }
+}
+
+fn same(one: Stored, other: Stored) -> bool {
+    if one.summary != other.summary {
+        return false;
+    }
+    if one.full != other.full {
+        return false;
+    }
+    one.count == other.count
+}
+
+// The trees from `first` to `last`, which all store this. Where it is 0 throughout, it is not said.
+fn group(first: usize, last: usize, stored: Stored) {
+    if stored.summary | stored.full | stored.count == 0 {
         return;
     }
     show::asked(b", trees ", first as u64, b"..", last as u64);
-    show::text(b" under ");
-    show::number(summary as u64);
+    runs::stored(stored);
 }
 
-// Those side by side that have the same summary, together.
-fn groups(summaries: [u16; 16]) {
+// Those side by side that store the same, together.
+fn groups(map: Third) {
     let mut first = 0;
     let mut last = 0;
     while last < 15 {
-        if summaries[last] != summaries[last + 1] {
-            group(first, last, summaries[last]);
+        let here = stored(map, last);
+        if !same(here, stored(map, last + 1)) {
+            group(first, last, here);
             first = last + 1;
         }
         last += 1;
     }
-    group(first, last, summaries[15]);
+    group(first, last, stored(map, 15));
 }
 
 fn left(changed: Changed) {
@@ -37,7 +63,7 @@ fn left(changed: Changed) {
     let words = map.words();
     show::answer(answer);
     runs::left(&words, 16384, map.summary());
-    groups(map.summaries());
+    groups(map);
     show::text(b"\n");
 }
 

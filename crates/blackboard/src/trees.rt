@@ -1,5 +1,5 @@
 // The tree map: the map by its name, the call, its answer, and the runs of slots that are then used,
-// with the summary. A refused tree is shown too, since its words and its summary can always be read.
+// with all that is stored. A refused tree is shown too, since its words and its fields can always be read.
 use crate::asked;
 use crate::names;
 use crate::runs;
@@ -7,13 +7,26 @@ use crate::show;
 use tree::Changed;
 use tree::Tree;
 
+// The map that is left, to the end of the line.
+fn shown(map: Tree) {
+    let words = map.words();
+    runs::left(&words, 1024, map.summary());
+    runs::beside(map.full(), map.count());
+    show::text(b"\n");
+}
+
 fn left(changed: Changed) {
     let answer = changed.answer;
     let map = changed.map;
-    let words = map.words();
     show::answer(answer);
-    runs::left(&words, 1024, map.summary());
-    show::text(b"\n");
+    shown(map);
+}
+
+// The map that a story begins with.
+pub fn at_first(name: u8, map: Tree) {
+    names::put(name);
+    show::text(b": at first");
+    shown(map);
 }
 
 pub fn take(name: u8, map: Tree, n: usize, a: usize) {

@@ -3,12 +3,15 @@
 //
 //   byte 0      the call; of an answer: 0 refused, 1 done, 2 a number, 3 no, 4 yes
 //   byte 1      the value for set
-//   bytes 2, 3  the summary
+//   bytes 2, 3  the summary; of a third level the one over its trees
+//   bytes 4, 5  the mark of full words, and 0 of a third level, which has none of its own
+//   bytes 6, 7  the count, and 0 of a third level
 //   from 8      a number: the entries of a take, else the start, the slot or the value; of an answer
 //               its number, or the refusal's
 //   from 16     a second number: the exponent, the entries, the alignment
-//   from 24     the sixteen words; a word map is the first of them; of a third level the summaries of
-//               its trees stand in their place
+//   from 24     the sixteen words; a word map is the first of them. Of a third level the fields of its
+//               trees stand in their place, eight bytes a tree: bytes 0, 1 the summary, 2, 3 the mark
+//               of full words, 4, 5 the count, and 0 in the last two
 use crate::said::Said;
 ghost use Prim.Native.Nat.{_+_, _≤_, _<_};
 ghost use lib.ListN.{length};
@@ -50,19 +53,27 @@ pub(crate) fn words(request: &[u8; 152]) -> [u64; 16] {
 }
 
 pub(crate) fn summary(request: &[u8; 152]) -> u16 {
-    let low = narrow(request[2]);
-    let high = narrow(request[3]);
-    low | high << 8
+    half_at(request, 2)
+}
+
+pub(crate) fn full(request: &[u8; 152]) -> u16 {
+    half_at(request, 4)
+}
+
+pub(crate) fn count(request: &[u8; 152]) -> u16 {
+    half_at(request, 6)
 }
 
 pub(crate) fn summaries(request: &[u8; 152]) -> [u16; 16] {
-    let mut summaries = [0u16; 16];
-    let mut i = 0;
-    while i < 16 {
-        summaries[i] = low_half(word(request, i));
-        i += 1;
-    }
-    summaries
+    of_trees(request, 0)
+}
+
+pub(crate) fn fulls(request: &[u8; 152]) -> [u16; 16] {
+    of_trees(request, 2)
+}
+
+pub(crate) fn counts(request: &[u8; 152]) -> [u16; 16] {
+    of_trees(request, 4)
 }
 
 pub(crate) fn many_words(bytes: &[u8; 2048]) -> [u64; 256] {
@@ -87,8 +98,15 @@ pub(crate) fn put_word(answer: &mut [u8; 152], i: usize, word: u64)
 }
 
 pub(crate) fn put_summary(answer: &mut [u8; 152], summary: u16) {
-    answer[2] = low_byte(wide_summary(summary));
-    answer[3] = low_byte(wide_summary(summary) >> 8);
+    put_half(answer, 2, summary);
+}
+
+pub(crate) fn put_full(answer: &mut [u8; 152], full: u16) {
+    put_half(answer, 4, full);
+}
+
+pub(crate) fn put_count(answer: &mut [u8; 152], count: u16) {
+    put_half(answer, 6, count);
 }
 
 pub(crate) fn put_words(answer: &mut [u8; 152], words: &[u64; 16]) {
@@ -100,11 +118,15 @@ pub(crate) fn put_words(answer: &mut [u8; 152], words: &[u64; 16]) {
 }
 
 pub(crate) fn put_summaries(answer: &mut [u8; 152], summaries: &[u16; 16]) {
-    let mut i = 0;
-    while i < 16 {
-        put_word(answer, i, wide_summary(summaries[i]));
-        i += 1;
-    }
+    put_of_trees(answer, 0, summaries);
+}
+
+pub(crate) fn put_fulls(answer: &mut [u8; 152], fulls: &[u16; 16]) {
+    put_of_trees(answer, 2, fulls);
+}
+
+pub(crate) fn put_counts(answer: &mut [u8; 152], counts: &[u16; 16]) {
+    put_of_trees(answer, 4, counts);
 }
 
 pub(crate) fn bytes_of(words: &[u64; 256]) -> [u8; 2048] {
@@ -115,6 +137,45 @@ pub(crate) fn bytes_of(words: &[u64; 256]) -> [u8; 2048] {
         i += 1;
     }
     bytes
+}
+
+// A field of each tree of a third level, by its place among the tree's eight bytes.
+fn of_trees(request: &[u8; 152], place: usize) -> [u16; 16]
+    requires { ⌜ place < 7 ⌝ }
+{
+    let mut fields = [0u16; 16];
+    let mut i = 0;
+    while i < 16 {
+        fields[i] = half_at(request, WORDS + 8 * i + place);
+        i += 1;
+    }
+    fields
+}
+
+fn put_of_trees(answer: &mut [u8; 152], place: usize, fields: &[u16; 16])
+    requires { ⌜ place < 7 ⌝ }
+{
+    let mut i = 0;
+    while i < 16 {
+        put_half(answer, WORDS + 8 * i + place, fields[i]);
+        i += 1;
+    }
+}
+
+// A number of two bytes.
+fn half_at(bytes: &[u8; 152], at: usize) -> u16
+    requires { ⌜ at + 2 ≤ 152 ⌝ }
+{
+    let low = narrow(bytes[at]);
+    let high = narrow(bytes[at + 1]);
+    low | high << 8
+}
+
+fn put_half(bytes: &mut [u8; 152], at: usize, n: u16)
+    requires { ⌜ at + 2 ≤ 152 ⌝ }
+{
+    bytes[at] = low_byte(wide_half(n));
+    bytes[at + 1] = low_byte(wide_half(n) >> 8);
 }
 
 fn number_at(bytes: &[u8], at: usize) -> u64
@@ -147,8 +208,8 @@ fn wide(byte: u8) -> u64 {
     byte as u64
 }
 
-fn wide_summary(summary: u16) -> u64 {
-    summary as u64
+fn wide_half(n: u16) -> u64 {
+    n as u64
 }
 
 // The same in the bytes behind the 152.
@@ -171,8 +232,4 @@ fn byte_of(n: u64, i: usize) -> u8
 
 fn low_byte(n: u64) -> u8 {
     (n % 256) as u8
-}
-
-fn low_half(n: u64) -> u16 {
-    (n % 65536) as u16
 }

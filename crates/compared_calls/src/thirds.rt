@@ -14,7 +14,9 @@ pub struct Whole {
 
 fn map<'a>(request: &'a [u8; 152], words: &'a [u8; 2048]) -> Third {
     let map = Third::holding(image::many_words(words));
-    map.with_summaries(image::summaries(request), image::summary(request))
+    let map = map.with_summaries(image::summaries(request), image::summary(request));
+    map.with_fulls(image::fulls(request))
+        .with_counts(image::counts(request))
 }
 
 // The map is handed back as it came where the call does not change it.
@@ -36,9 +38,13 @@ fn change<'a>(request: &'a [u8; 152], words: &'a [u8; 2048]) -> Whole {
     let answered = changed.answer;
     let left = changed.map;
     let summaries = left.summaries();
+    let fulls = left.fulls();
+    let counts = left.counts();
     let mut answer = image::blank(request);
     image::put_said(&mut answer, said::of_answer(answered));
     image::put_summaries(&mut answer, &summaries);
+    image::put_fulls(&mut answer, &fulls);
+    image::put_counts(&mut answer, &counts);
     image::put_summary(&mut answer, left.summary());
     let after = left.words();
     let words = image::bytes_of(&after);

@@ -7,7 +7,9 @@ use tree::Changed;
 use tree::Tree;
 
 fn map(request: &[u8; 152]) -> Tree {
-    Tree::holding(image::words(request)).with_summary(image::summary(request))
+    let map = Tree::holding(image::words(request)).with_summary(image::summary(request));
+    map.with_full(image::full(request))
+        .with_count(image::count(request))
 }
 
 pub(crate) fn change(request: &[u8; 152], answer: &mut [u8; 152]) {
@@ -18,6 +20,8 @@ pub(crate) fn change(request: &[u8; 152], answer: &mut [u8; 152]) {
     let words = left.words();
     image::put_words(answer, &words);
     image::put_summary(answer, left.summary());
+    image::put_full(answer, left.full());
+    image::put_count(answer, left.count());
 }
 
 fn changed(request: &[u8; 152], map: Tree) -> Changed {

@@ -10,12 +10,12 @@ use libc::STDIN_FILENO;
 use libc::STDOUT_FILENO;
 
 fn main() {
-    let mut request = [0u8; 288];
+    let mut request = [0u8; 304];
     // A loop has to end, and no run uses up so many turns.
     let mut turns = u64::MAX;
     while turns > 0 {
         turns -= 1;
-        if io::read_full(STDIN_FILENO, &mut request) < 288 {
+        if io::read_full(STDIN_FILENO, &mut request) < 304 {
             return;
         }
         if !served(&request) {
@@ -25,7 +25,7 @@ fn main() {
 }
 
 // Answers a request. Whether there is more to answer: not where the output has ended.
-fn served(request: &[u8; 288]) -> bool {
+fn served(request: &[u8; 304]) -> bool {
     let asked = image::numbers(request);
     let told = answered(&asked);
     let answer = image::bytes(&told);
@@ -34,7 +34,7 @@ fn served(request: &[u8; 288]) -> bool {
 
 // The calls: 1 start, 2 reap, 3 record, 4 state, 5 empty, 6 used, 7 capacity. Any other makes the empty
 // state, whatever came.
-fn answered(asked: &[u64; 36]) -> [u64; 36] {
+fn answered(asked: &[u64; 38]) -> [u64; 38] {
     let jobs = image::jobs(asked);
     let x = asked[1] as usize;
     let y = asked[2] as usize;
@@ -51,7 +51,7 @@ fn answered(asked: &[u64; 36]) -> [u64; 36] {
     }
 }
 
-fn changed(changed: Changed) -> [u64; 36] {
+fn changed(changed: Changed) -> [u64; 38] {
     let answer = changed.answer;
     let left = changed.jobs;
     image::answer(said::of_answer(answer), left)

@@ -29,7 +29,7 @@ use Rattle.slots.specs.Jobs.{jobs, runningIn, stateBy, startCall, reapCall, rec
 use Rattle.slots.specs.JobView.{reapedUsed}
 use Rattle.views.specs.Painting.{slotIn, paintedWords}
 use Rattle.views.specs.Words.{AreWords, wordsOf, same-words, painted-words}
-use Rattle.views.specs.Summary.{sixteen-fit}
+use Rattle.views.specs.Marks.{sixteen-fit}
 use Rattle.tree.specs.declared.Tree.{Tree}
 use Rattle.tree.specs.Layout.{treeView, slotOf, ofSlots, IsTree}
 use Rattle.jobs.specs.declared.JobAnswer.{JobAnswer}

@@ -30,8 +30,14 @@ module _ (j : Jobs) (good : Is (row the-type) j (vals the-type the-laws j)) wher
   summary-fits : Fits w16 (j .tree .summary)
   summary-fits = search needs
 
+  full-fits : Fits w16 (j .tree .full)
+  full-fits = search needs
+
+  count-fits : Fits w16 (j .tree .count)
+  count-fits = search needs
+
   tree-is : IsTree (j .tree)
-  tree-is = is-tree-means (j .tree) .1 (sixteen-used, λ i l. used-fits i .fits, summary-fits .fits)
+  tree-is = is-tree-means (j .tree) .1 (sixteen-used, λ i l. used-fits i .fits, summary-fits .fits, full-fits .fits, count-fits .fits)
 
   pub are-jobs : AreJobs j
   are-jobs = are-jobs-means j .1 (tree-is, sixteen, λ i l. word-fits i .fits)

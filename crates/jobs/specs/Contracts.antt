@@ -38,6 +38,12 @@ WordsSays j r = r ≡ j .tree .words
 abbrev pub SummarySays : Jobs → ℕ → Type 0
 SummarySays j r = r ≡ j .tree .summary
 
+abbrev pub FullSays : Jobs → ℕ → Type 0
+FullSays j r = r ≡ j .tree .full
+
+abbrev pub CountSays : Jobs → ℕ → Type 0
+CountSays j r = r ≡ j .tree .count
+
 abbrev pub ReapedSays : Jobs → List ℕ → Type 0
 ReapedSays j r = r ≡ j .reaped
 

@@ -27,7 +27,7 @@ use Rattle.jobs.specs.declared.Jobs.{Jobs}
 use Rattle.jobs.specs.declared.Changed.{Changed}
 use Rattle.jobs.specs.JobAnswers.{jobAnswerSays, stateSays, job-answer-says-injective, state-says-injective}
 use Rattle.jobs.specs.Layout.{reapedView, inStruct, jobsView, marksOf, usedOf, ofMarks, Sound, AreJobs}
-use Rattle.jobs.specs.Contracts.{NumberSays, Leaves, NewEmptySays, HoldingSays, WordsSays, SummarySays, ReapedSays, StartSays, ReapSays, RecordSays, StateSays, EmptySays, UsedSays, CapacitySays}
+use Rattle.jobs.specs.Contracts.{NumberSays, Leaves, NewEmptySays, HoldingSays, WordsSays, SummarySays, FullSays, CountSays, ReapedSays, StartSays, ReapSays, RecordSays, StateSays, EmptySays, UsedSays, CapacitySays}
 
 -- ---- the demands. An outcome is a `Changed`; the contracts of jobs are those of `Demands`, with 2 ^ 10 slots
 
@@ -104,6 +104,12 @@ words-one-answer j r q p o = p ∙ sym o
 
 pub summary-one-answer : (j : Jobs) (r q : ℕ) → SummarySays j r → SummarySays j q → r ≡ q
 summary-one-answer j r q p o = p ∙ sym o
+
+pub full-one-answer : (j : Jobs) (r q : ℕ) → FullSays j r → FullSays j q → r ≡ q
+full-one-answer j r q p o = p ∙ sym o
+
+pub count-one-answer : (j : Jobs) (r q : ℕ) → CountSays j r → CountSays j q → r ≡ q
+count-one-answer j r q p o = p ∙ sym o
 
 pub reaped-one-answer : (j : Jobs) (r q : List ℕ) → ReapedSays j r → ReapedSays j q → r ≡ q
 reaped-one-answer j r q p o = p ∙ sym o

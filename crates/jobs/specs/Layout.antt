@@ -13,7 +13,7 @@ use Rattle.slots.specs.JobView as Any
 use Rattle.slots.specs.JobView.{Paired}
 use Rattle.views.specs.Painting.{slotIn}
 use Rattle.views.specs.Words.{wordsView}
-use Rattle.views.specs.Summary.{sixteen-fit}
+use Rattle.views.specs.Marks.{sixteen-fit}
 use Rattle.tree.specs.declared.Tree.{Tree}
 use Rattle.tree.specs.Layout as Tree
 use Rattle.tree.specs.Layout.{treeView, slotOf, IsTree}

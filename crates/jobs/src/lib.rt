@@ -19,7 +19,7 @@ ghost use Rattle.answers.specs.Answers.{answerSays};
 ghost use Rattle.slots.specs.Jobs.{stateBy};
 ghost use Rattle.jobs.specs.JobAnswers.{jobAnswerSays, stateSays};
 ghost use Rattle.jobs.specs.Inner.{ReapedUsedSays, RangeJudged, ReapJudged, RecordJudged};
-ghost use Rattle.jobs.specs.Contracts.{NumberSays, NewEmptySays, HoldingSays, WordsSays, SummarySays, ReapedSays, StartSays, ReapSays, RecordSays, StateSays, EmptySays, UsedSays, CapacitySays};
+ghost use Rattle.jobs.specs.Contracts.{NumberSays, NewEmptySays, HoldingSays, WordsSays, SummarySays, FullSays, CountSays, ReapedSays, StartSays, ReapSays, RecordSays, StateSays, EmptySays, UsedSays, CapacitySays};
 
 // Why a call was refused.
 pub enum JobRefusal {
@@ -105,6 +105,22 @@ impl Jobs {
     {
         let tree = self.tree;
         tree.summary()
+    }
+
+    // The tree's mark of full words, of every state. Never refused.
+    pub fn full(self) -> u16
+        ensures { λ r. ⌜ FullSays self r ⌝ }
+    {
+        let tree = self.tree;
+        tree.full()
+    }
+
+    // The tree's stored count, of every state. Never refused.
+    pub fn count(self) -> u16
+        ensures { λ r. ⌜ CountSays self r ⌝ }
+    {
+        let tree = self.tree;
+        tree.count()
     }
 
     // The words of the reaped slots, of every state. Never refused.

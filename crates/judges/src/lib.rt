@@ -1,6 +1,7 @@
 // The judges: what each call answers on the words of a sound map, at every size of map. Each is over
-// the words, lent, and a size; a size is one case of `Size`. A map puts check 1, whether it is sound,
-// in front. Rests on `rows`.
+// the words, lent, and a size; a size is one case of `Size`. What searches also goes by marks of full
+// words, as `rows` has them: a word that is marked counts as full, whatever it holds. A map puts check 1,
+// whether it is sound, in front. Rests on `rows`.
 use answers::Answer;
 use answers::NextFree;
 use answers::Refusal;
@@ -97,8 +98,8 @@ fn unready(used: bool) -> Answer
 }
 
 // The start that take grants, or its refusal: 2, 3, 4 or 7.
-pub fn take(words: &[u64], size: Size, n: usize, a: usize) -> NextFree
-    ensures { λ r. ⌜ TakeSays (now (words .entry)) size n a r ⌝ }
+pub fn take<'a>(words: &'a [u64], fulls: &'a [u16], size: Size, n: usize, a: usize) -> NextFree
+    ensures { λ r. ⌜ TakeSays (now (words .entry)) (now (fulls .entry)) size n a r ⌝ }
 {
     if n == 0 {
         return NextFree::Refused(Refusal::NoEntries);
@@ -109,17 +110,17 @@ pub fn take(words: &[u64], size: Size, n: usize, a: usize) -> NextFree
     if capacity(size) < n {
         return NextFree::Refused(Refusal::PastTheEnd);
     }
-    lowest_start(words, size, n, a)
+    lowest_start(words, fulls, size, n, a)
 }
 
 // The least free slot from `start` on, or the refusal: 4 or 7.
-pub fn next_free(words: &[u64], size: Size, start: usize) -> NextFree
-    ensures { λ r. ⌜ NextFreeSays (now (words .entry)) size start r ⌝ }
+pub fn next_free<'a>(words: &'a [u64], fulls: &'a [u16], size: Size, start: usize) -> NextFree
+    ensures { λ r. ⌜ NextFreeSays (now (words .entry)) (now (fulls .entry)) size start r ⌝ }
 {
     if capacity(size) <= start {
         return NextFree::Refused(Refusal::PastTheEnd);
     }
-    next_free_in(words, size, start)
+    next_free_in(words, fulls, size, start)
 }
 
 // Whether the slot is used, or refusal 4.
@@ -135,10 +136,10 @@ pub fn get(words: &[u64], size: Size, slot: usize) -> Truth
 // ---- the search
 
 // The least free slot from `start` on, or that there is no room: what take and next free share.
-fn next_free_in(words: &[u64], size: Size, start: usize) -> NextFree
-    ensures { λ r. ⌜ NextFreeInSays (now (words .entry)) size start r ⌝ }
+fn next_free_in<'a>(words: &'a [u64], fulls: &'a [u16], size: Size, start: usize) -> NextFree
+    ensures { λ r. ⌜ NextFreeInSays (now (words .entry)) (now (fulls .entry)) size start r ⌝ }
 {
-    let slot = rows::first_free(words, start);
+    let slot = rows::first_free(words, fulls, start);
     if capacity(size) <= slot {
         return NextFree::Refused(Refusal::NoRoom);
     }
@@ -147,19 +148,19 @@ fn next_free_in(words: &[u64], size: Size, start: usize) -> NextFree
 
 // The lowest start that fits, or that there is no room: the search that take makes. It leaves at
 // once where no slot is free from the try on.
-fn lowest_start(words: &[u64], size: Size, n: usize, a: usize) -> NextFree
+fn lowest_start<'a>(words: &'a [u64], fulls: &'a [u16], size: Size, n: usize, a: usize) -> NextFree
     requires { ⌜ (0 < n) × (n ≤ 2 ^ exponentOf size) × (a < exponentOf size) ⌝ }
-    ensures { λ r. ⌜ LowestStartSays (now (words .entry)) size n a r ⌝ }
+    ensures { λ r. ⌜ LowestStartSays (now (words .entry)) (now (fulls .entry)) size n a r ⌝ }
 {
     let last = capacity(size) - n;
     let mut start = 0;
     while start <= last {
-        let next = next_free_in(words, size, start);
+        let next = next_free_in(words, fulls, size, start);
         let NextFree::At(free) = next else {
             return NextFree::Refused(Refusal::NoRoom);
         };
         if free == start {
-            if rows::all_free(words, start, n) {
+            if rows::fits(words, fulls, start, n) {
                 return NextFree::At(start);
             }
         }

@@ -74,7 +74,7 @@ fn left_in(words: &mut [u64; 16], map: Tree) -> usize
 {
     let left = map.words();
     *words = left;
-    rows::count(&left)
+    rows::count(&left) as usize
 }
 
 // ---- the same at the third level
@@ -110,7 +110,7 @@ fn left_in_third(words: &mut [u64; 256], third: Third) -> usize
 {
     let left = third.words();
     *words = left;
-    rows::count(&left)
+    rows::count(&left) as usize
 }
 
 // ---- the same at the word
@@ -146,5 +146,5 @@ fn left_in_word(words: &mut [u64; 1], word: Word) -> usize
 {
     let left = [word.bits()];
     *words = left;
-    rows::count(&left)
+    rows::count(&left) as usize
 }

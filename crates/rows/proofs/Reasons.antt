@@ -1,25 +1,26 @@
 -- What the loops over the words come to: the reasons behind `rows`. Assumes nothing.
-use mathlib.Core.Path.{_≡_, sym, ap, ap₂, _∙_}
+use mathlib.Core.Path.{_≡_, refl, sym, ap, ap₂, fun-ext, _∙_}
 use mathlib.Core.Logic.{_↔_}
 use mathlib.Core.Bool.{Bool, true, false, not, _&&_, _||_, true≢false, false≢true}
 use mathlib.Core.List.{List}
 use Prim.Native.Nat.{ℕ, suc, _+_, _-_, _*_, _/_, _%_, _^_, _≤_, _<_, zero-le, min}
-use native.Mathlib.Nat.{lt-of-le-of-lt, mod-eq-of-lt, zero-add, lt-of-not-le, min-eq-left, le-refl, le-trans, le-of-lt}
+use native.Mathlib.Nat.{lt-of-le-of-lt, mod-eq-of-lt, zero-add, lt-of-not-le, min-eq-left, le-refl, le-trans, le-of-lt, pos-of-ne-zero}
 use native.Mathlib.Omega.{arith}
 use mir.Val.{boolByte}
 use lib.ListN.{length, getD, set, List·getD-eq-default}
 use lib.Bits.{bitOr, bitAnd, or-lt, and-le-l}
 use lib.Dec.{T, leb, ltb, eqb, leb→le, le→leb, ltb→lt, lt→ltb}
 use lib.Pow.{pow-pos, pow-lt}
-use borrow.Author.Tests.{lt-ltb, le-ltb, lt-leb, le-leb, eq-eqb, ne-eqb, ltb-true, ltb-false, eqb-true, eqb-false, leb-true, not-true, not-false}
-use Rattle.bits.specs.Range.{bit, and-true, and-false, or-false, either, same-test, within, within-named, within-found, finds-every, least, least-is, least-none, least-from, least-passes, least-first, count, count-agree, count-most, count-split, count-moved}
+use borrow.Author.Tests.{lt-ltb, le-ltb, lt-leb, le-leb, eq-eqb, ne-eqb, ltb-true, ltb-false, eqb-true, eqb-false, leb-true, leb-false, not-true, not-false}
+use Rattle.bits.specs.Range.{bit, and-true, and-false, or-false, either, same-test, within, within-named, within-found, finds-every, least, least-is, least-none, least-from, least-to, least-passes, least-first, count, count-agree, count-most, count-split, count-moved}
 use Rattle.bits.specs.Digits.{digit, number, digit-number, number-is, number-agree, number-lt, zero-digit, and-digit, or-digit, up-digit, bit-digit, power-digit, complement-digit, read-digit}
 use Rattle.slots.specs.Sets.{Slots, Named, allFree, allUsed, finds-all-free, finds-all-used}
 use Rattle.slots.specs.Lowest.{freeFrom}
 use Rattle.places.specs.Places.{runMask, freeIn, usedIn, paintedIn}
-use Rattle.rows.specs.Rows.{withBit}
-use Rattle.views.specs.Summary.{usedWord, partWords}
-use Rattle.views.specs.Painting.{slotsIn, slotIn, slots-most, slot-there, slot-past, slot-in-word, endIn, partMask, reaches, paintedFirst, paint-on, paint-ahead, paint-rest}
+use Rattle.rows.specs.Rows.{markTest, withBit, openFrom}
+use Rattle.views.specs.Marks.{passesAt, partWords}
+use Rattle.views.specs.Full.{marked, filled, filled-slots, filled-open, filled-marked, filled-used, seenFrom}
+use Rattle.views.specs.Painting.{slotsIn, slotIn, slots-most, word-there, slot-there, slot-past, slot-in-word, endIn, partMask, reaches, paintedFirst, paint-on, paint-ahead, paint-rest}
 
 -- ---- a number whose places are set one after the other
 
@@ -42,14 +43,19 @@ pub part-most : (words : List ℕ) → partWords words ≤ 16
 unfolding partWords
 part-most words = omega arith
 
--- a word past the part's last is 0, so the places of the part's words are all
-pub part-places : (words : List ℕ) → firstPlaces (usedWord words) 16 (partWords words) ≡ number (usedWord words) 16
+-- 0 is not marked, neither as used nor as full
+pub zero-fails : (full : Bool) → markTest full 0 ≡ false
+zero-fails true = refl
+zero-fails false = refl
+
+-- a word past the part's last is 0, so where 0 does not pass the places of the part's words are all
+pub part-places : (test : ℕ → Bool) → test 0 ≡ false → (words : List ℕ) → firstPlaces (passesAt test words) 16 (partWords words) ≡ number (passesAt test words) 16
 unfolding partWords
-part-places words = number-agree _ (usedWord words) 16 (λ p l.
-    either (ltb p (partWords words)) (λ t. ap (λ (b : Bool). b && usedWord words p) t)
+part-places test fails words = number-agree _ (passesAt test words) 16 (λ p l.
+    either (ltb p (partWords words)) (λ t. ap (λ (b : Bool). b && passesAt test words p) t)
     (λ t. let past = ltb-false p (partWords words) t in
-    ap (λ (b : Bool). b && usedWord words p) t
-    ∙ sym (ap (λ (w : ℕ). not (eqb w 0)) (List·getD-eq-default words 0 {n = p} (omega arith)))))
+    ap (λ (b : Bool). b && passesAt test words p) t
+    ∙ sym (ap test (List·getD-eq-default words 0 {n = p} (omega arith)) ∙ fails)))
 
 joined : (f : ℕ → Bool) (i p : ℕ) → ltb p i && f p || leb i p && (eqb (p - i) 0 && f i) ≡ ltb p (i + 1) && f p
 joined f i p =
@@ -77,47 +83,47 @@ next-place f w i l = number-is w _ _ (or-lt w _ _ (number-lt _ w) (placed (f i) 
     ∙ ap₂ (λ (b c : Bool). b || c) (digit-number _ w p m) (up-digit (bit (f i)) i p ∙ ap (λ (b : Bool). leb i p && b) (bit-digit (f i) (p - i)))
     ∙ joined f i p)
 
--- ---- a summary brought up to date place by place
+-- ---- marks brought up to date place by place
 
 -- a place cleared and then set as v has it
-pub replaced : (summary i : ℕ) (v : Bool) → summary < 2 ^ 16 → i < 16
-    → bitOr (bitAnd summary ((2 ^ 16 - 1) - 2 ^ i)) (bit v * 2 ^ i) ≡ withBit summary v i
+pub replaced : (marks i : ℕ) (v : Bool) → marks < 2 ^ 16 → i < 16
+    → bitOr (bitAnd marks ((2 ^ 16 - 1) - 2 ^ i)) (bit v * 2 ^ i) ≡ withBit marks v i
 unfolding withBit
-replaced summary i v held l = number-is 16 _ _ (or-lt 16 _ _ (lt-of-le-of-lt (and-le-l summary _) held) (placed v 16 i l)) (λ p m.
-    or-digit (bitAnd summary ((2 ^ 16 - 1) - 2 ^ i)) (bit v * 2 ^ i) p
+replaced marks i v held l = number-is 16 _ _ (or-lt 16 _ _ (lt-of-le-of-lt (and-le-l marks _) held) (placed v 16 i l)) (λ p m.
+    or-digit (bitAnd marks ((2 ^ 16 - 1) - 2 ^ i)) (bit v * 2 ^ i) p
     ∙ ap₂ (λ (b c : Bool). b || c)
-    (and-digit summary _ p ∙ ap (λ (b : Bool). digit summary p && b) (complement-digit 16 (2 ^ i) p (pow-lt l) m ∙ ap not (power-digit i p)))
+    (and-digit marks _ p ∙ ap (λ (b : Bool). digit marks p && b) (complement-digit 16 (2 ^ i) p (pow-lt l) m ∙ ap not (power-digit i p)))
     (up-digit (bit v) i p ∙ ap (λ (b : Bool). leb i p && b) (bit-digit v (p - i)))
     ∙ chosen p)
   where
-    chosen : (p : ℕ) → digit summary p && not (eqb p i) || leb i p && (eqb (p - i) 0 && v) ≡ elim (eqb p i) [ true ↦ v | false ↦ digit summary p ]
+    chosen : (p : ℕ) → digit marks p && not (eqb p i) || leb i p && (eqb (p - i) 0 && v) ≡ elim (eqb p i) [ true ↦ v | false ↦ digit marks p ]
     chosen p =
         either (eqb p i)
-        (λ e. let same = eqb-true p i e in rw (e, and-false (digit summary p), le-leb i p (omega arith), eq-eqb (p - i) 0 (omega arith)))
+        (λ e. let same = eqb-true p i e in rw (e, and-false (digit marks p), le-leb i p (omega arith), eq-eqb (p - i) 0 (omega arith)))
         (λ e. let other = eqb-false p i e in
         either (leb i p)
-        (λ t. rw (e, t, ne-eqb (p - i) 0 (λ h. other (omega (arith, leb-true i p t, h))), and-true (digit summary p)) (or-false (digit summary p)))
-        (λ t. rw (e, t, and-true (digit summary p)) (or-false (digit summary p))))
+        (λ t. rw (e, t, ne-eqb (p - i) 0 (λ h. other (omega (arith, leb-true i p t, h))), and-true (digit marks p)) (or-false (digit marks p)))
+        (λ t. rw (e, t, and-true (digit marks p)) (or-false (digit marks p))))
 
 -- the reached bits of the words below i are up to date
-abbrev pub touchedFirst : List ℕ → ℕ → ℕ → ℕ → ℕ → ℕ
-touchedFirst words summary s e i = number (λ p. elim (reaches s e p && ltb p i) [ true ↦ usedWord words p | false ↦ digit summary p ]) 16
+abbrev pub touchedFirst : (ℕ → Bool) → List ℕ → ℕ → ℕ → ℕ → ℕ → ℕ
+touchedFirst test words marks s e i = number (λ p. elim (reaches s e p && ltb p i) [ true ↦ passesAt test words p | false ↦ digit marks p ]) 16
 
-module _ (words : List ℕ) (summary s e : ℕ) where
+module _ (test : ℕ → Bool) (words : List ℕ) (marks s e : ℕ) where
   abbrev place-as : ℕ → Bool → Bool
-  place-as p done = elim done [ true ↦ usedWord words p | false ↦ digit summary p ]
+  place-as p done = elim done [ true ↦ passesAt test words p | false ↦ digit marks p ]
 
   abbrev picked : ℕ → ℕ → Bool → Bool
-  picked i p here = elim here [ true ↦ usedWord words i | false ↦ digit (touchedFirst words summary s e i) p ]
+  picked i p here = elim here [ true ↦ passesAt test words i | false ↦ digit (touchedFirst test words marks s e i) p ]
 
-  pub touch-none : summary < 2 ^ 16 → (i : ℕ) → i ≤ s / 64 → summary ≡ touchedFirst words summary s e i
-  touch-none held i l = number-is 16 summary _ held (λ p m. sym (ap (place-as p) (unreached p)))
+  pub touch-none : marks < 2 ^ 16 → (i : ℕ) → i ≤ s / 64 → marks ≡ touchedFirst test words marks s e i
+  touch-none held i l = number-is 16 marks _ held (λ p m. sym (ap (place-as p) (unreached p)))
     where
       unreached : (p : ℕ) → reaches s e p && ltb p i ≡ false
       unreached p =
           either (ltb p i) (λ t. rw (lt-leb (s / 64) p (omega (arith, ltb-true p i t)))) (λ t. rw (t, and-false (reaches s e p)))
 
-  pub touch-on : (i : ℕ) → s / 64 ≤ i → i * 64 < e → withBit (touchedFirst words summary s e i) (usedWord words i) i ≡ touchedFirst words summary s e (i + 1)
+  pub touch-on : (i : ℕ) → s / 64 ≤ i → i * 64 < e → withBit (touchedFirst test words marks s e i) (passesAt test words i) i ≡ touchedFirst test words marks s e (i + 1)
   unfolding withBit
   touch-on i l h = number-agree _ _ 16 (λ p m. either (eqb p i) (λ t. at-place p t) (λ t. elsewhere p m t))
     where
@@ -128,7 +134,7 @@ module _ (words : List ℕ) (summary s e : ℕ) where
       at-place p t =
           let same = eqb-true p i t in
           let now : reaches s e p && ltb p (i + 1) ≡ true = rw (le-leb (s / 64) p (omega arith), lt-ltb (p * 64) e (omega arith), lt-ltb p (i + 1) (omega arith)) in
-          ap (picked i p) t ∙ ap (usedWord words) (sym same) ∙ sym (ap (place-as p) now)
+          ap (picked i p) t ∙ ap (passesAt test words) (sym same) ∙ sym (ap (place-as p) now)
 
       elsewhere : (p : ℕ) → p < 16 → eqb p i ≡ false → picked i p (eqb p i) ≡ place-as p (reaches s e p && ltb p (i + 1))
       elsewhere p m t =
@@ -137,7 +143,7 @@ module _ (words : List ℕ) (summary s e : ℕ) where
           ∙ ap (λ (b : Bool). place-as p (reaches s e p && b))
           (same-test (ltb p i) (ltb p (i + 1)) (λ a. lt→ltb p (i + 1) (omega (arith, ltb→lt p i a))) (λ a. lt→ltb p i (below p other (ltb→lt p (i + 1) a))))
 
-  pub touch-all : (i : ℕ) → e ≤ i * 64 → touchedFirst words summary s e i ≡ number (λ p. elim (reaches s e p) [ true ↦ usedWord words p | false ↦ digit summary p ]) 16
+  pub touch-all : (i : ℕ) → e ≤ i * 64 → touchedFirst test words marks s e i ≡ number (λ p. elim (reaches s e p) [ true ↦ passesAt test words p | false ↦ digit marks p ]) 16
   touch-all i h = number-agree _ _ 16 (λ p m. ap (place-as p) (whole p))
     where
       whole : (p : ℕ) → reaches s e p && ltb p i ≡ reaches s e p
@@ -198,10 +204,10 @@ module _ (words : List ℕ) (start place : ℕ) (inside : start < slotsIn words)
       ∙ not-true _ (rw place-is (least-passes (λ i. not (digit word i)) (start % 64) (64 - start % 64) (rw (sym place-is) (omega arith))))
 
 -- from the end of the greatest row on the answer is that end
-pub far-from : (words : List ℕ) (from : ℕ) → 16384 ≤ from → 16384 ≡ freeFrom 14 (slotIn words) from
+pub far-from : (S : Slots) (from : ℕ) → 16384 ≤ from → 16384 ≡ freeFrom 14 S from
 unfolding freeFrom
-far-from words from far =
-    sym (least-none (λ i. not (slotIn words i)) (min from 16384) (16384 - from) (λ p f h. absurd (omega arith)) ∙ omega arith)
+far-from S from far =
+    sym (least-none (λ i. not (S i)) (min from 16384) (16384 - from) (λ p f h. absurd (omega arith)) ∙ omega arith)
 
 -- each slot from `from` to the start is used
 pub record Passed (words : List ℕ) (from start : ℕ) : Type 0 where
@@ -239,6 +245,119 @@ module _ (words : List ℕ) (from start : ℕ) (passed : Passed words from start
       let low = passed .later in
       let near = passed .near in
       sym (least-none (λ i. not (slotIn words i)) (min from 16384) (16384 - from) (λ p f h. ap not (passed .used p (omega arith) (omega arith))) ∙ omega arith))
+
+-- ---- going by the marks of full words
+
+-- past the marks no word is marked
+pub unmarked-past : (fulls : List ℕ) (i : ℕ) → length fulls ≤ i / 16 → marked fulls i ≡ false
+unfolding marked
+unmarked-past fulls i past = ap (λ (m : ℕ). digit m (i % 16)) (List·getD-eq-default fulls 0 {n = i / 16} past) ∙ zero-digit (i % 16)
+
+-- a mark, as the machine reads it
+pub read-mark : (fulls : List ℕ) (i : ℕ) → eqb (getD fulls (i / 16) 0 / 2 ^ (i % 16) % 2) 1 ≡ marked fulls i
+unfolding marked
+read-mark fulls i = read-digit (getD fulls (i / 16) 0) (i % 16)
+
+-- the first free place of the mark that tells of word i
+module _ (fulls : List ℕ) (i place : ℕ) (told : place ≡ freeFrom 6 (digit (getD fulls (i / 16) 0)) (i % 16)) where
+  abbrev unset : ℕ → Bool
+  unset q = not (digit (getD fulls (i / 16) 0) q)
+
+  mark-place : place ≡ least unset (i % 16) (64 - i % 16)
+  unfolding freeFrom
+  mark-place = told ∙ ap (λ (s : ℕ). least unset s (64 - i % 16)) (min-eq-left (omega arith))
+
+  in-mark : (q : ℕ) → q < 16 → marked fulls (i / 16 * 16 + q) ≡ digit (getD fulls (i / 16) 0) q
+  unfolding marked
+  in-mark q l = ap₂ (λ (m p : ℕ). digit (getD fulls m 0) p) whole rest
+    where
+      whole : (i / 16 * 16 + q) / 16 ≡ i / 16
+      whole = omega arith
+
+      rest : (i / 16 * 16 + q) % 16 ≡ q
+      rest = omega arith
+
+  pub marked-before : (j : ℕ) → i ≤ j → j < i / 16 * 16 + 16 → j < i / 16 * 16 + place → marked fulls j ≡ true
+  marked-before j l b m =
+      let at : j ≡ i / 16 * 16 + (j - i / 16 * 16) = omega arith in
+      ap (marked fulls) at ∙ in-mark (j - i / 16 * 16) (omega arith)
+      ∙ not-false _ (least-first unset (i % 16) (64 - i % 16) (j - i / 16 * 16) (omega arith) (rw (sym mark-place) (omega arith)))
+
+  pub open-from : i ≤ i / 16 * 16 + place
+  open-from = omega (arith, mark-place, least-from unset (i % 16) (64 - i % 16))
+
+  pub open-at : place < 16 → marked fulls (i / 16 * 16 + place) ≡ false
+  open-at l =
+      in-mark place l ∙ not-true _ (rw mark-place (least-passes unset (i % 16) (64 - i % 16) (rw (sym mark-place) (omega arith))))
+
+-- each word from `from` to i is marked
+abbrev pub Marked : List ℕ → ℕ → ℕ → Type 0
+Marked fulls from i = (j : ℕ) → from ≤ j → j < i → marked fulls j ≡ true
+
+pub open-found : (fulls : List ℕ) (from r : ℕ) → from ≤ r → r < 256 → marked fulls r ≡ false → Marked fulls from r → r ≡ openFrom fulls from
+unfolding openFrom
+open-found fulls from r l b unmarked before = sym (least-is (λ j. not (marked fulls j)) from (256 - from) r l (omega arith) (ap not unmarked) (λ j f h. ap not (before j f h)))
+
+pub open-none : (fulls : List ℕ) (from : ℕ) → from ≤ 256 → Marked fulls from 256 → 256 ≡ openFrom fulls from
+unfolding openFrom
+open-none fulls from l before = sym (least-none (λ j. not (marked fulls j)) from (256 - from) (λ j f h. ap not (before j f (omega arith))) ∙ omega arith)
+
+-- each word between is marked
+module _ (fulls : List ℕ) (from : ℕ) (near : from ≤ 256) where
+  abbrev shut : ℕ → Bool
+  shut j = not (marked fulls j)
+
+  pub open-later : from ≤ openFrom fulls from
+  unfolding openFrom
+  open-later = least-from shut from (256 - from)
+
+  pub open-most : openFrom fulls from ≤ 256
+  unfolding openFrom
+  open-most = omega (arith, least-to shut from (256 - from))
+
+  pub open-passes : Marked fulls from (openFrom fulls from)
+  unfolding openFrom
+  open-passes j l b = not-false (marked fulls j) (least-first shut from (256 - from) j l b)
+
+-- a used slot is one of the words'
+pub used-inside : (words : List ℕ) (p : ℕ) → slotIn words p ≡ true → p < slotsIn words
+used-inside words p used =
+    either (ltb p (slotsIn words)) (ltb-true p (slotsIn words)) (λ l. absurd (true≢false (sym used ∙ slot-past words p (ltb-false p (slotsIn words) l))))
+
+-- ---- a search that has passed no free slot; past the words it is at their end
+
+abbrev pub Searching : List ℕ → List ℕ → ℕ → ℕ → Type 0
+Searching words fulls from start = Passed (filled words fulls) from (min start (slotsIn words))
+
+module _ (words fulls : List ℕ) (from : ℕ) where
+  -- from a word on whose slots it has come to, it goes on after the marked words
+  pub searching-on : (j next : ℕ) → Passed (filled words fulls) from (j * 64) → j * 64 ≤ slotsIn words → next ≡ openFrom fulls j * 64 → Searching words fulls from next
+  searching-on j next passed inside e =
+      let near : j ≤ 256 = omega (arith, inside, slots-most words) in
+      rw e (passed-on (filled words fulls) from (j * 64) passed (min (openFrom fulls j * 64) (slotsIn words)) (omega (arith, open-later fulls j near)) (omega (arith, slots-most words))
+      (λ p l b. filled-marked words fulls p (omega arith) (open-passes fulls j near (p / 64) (omega arith) (omega arith))))
+
+  -- where the slot that is asked first is used, marks count from there on
+  pub seen-filled : slotIn words from ≡ true → seenFrom words fulls from ≡ slotIn (filled words fulls)
+  seen-filled used = fun-ext (λ p.
+      either (eqb p from)
+      (λ t. ap (pick p) t ∙ ap (slotIn words) (eqb-true p from t) ∙ used
+      ∙ sym (ap (slotIn (filled words fulls)) (eqb-true p from t)
+      ∙ filled-used words fulls from (used-inside words from used) used))
+      (λ t. ap (pick p) t))
+    where
+      pick : ℕ → Bool → Bool
+      pick p b = elim b [ true ↦ slotIn words p | false ↦ slotIn (filled words fulls) p ]
+
+  -- and where it is free it is the answer
+  pub seen-here : from < 16384 → slotIn words from ≡ false → from ≡ freeFrom 14 (seenFrom words fulls from) from
+  unfolding freeFrom
+  seen-here near free =
+      let within-reach : from ≤ 16384 = le-of-lt near in
+      sym (rw (min-eq-left within-reach)
+      (least-is (λ i. not (seenFrom words fulls from i)) from (16384 - from) from (le-refl from) (omega arith)
+      (ap (λ (b : Bool). not (elim b [ true ↦ slotIn words from | false ↦ slotIn (filled words fulls) from ])) (eq-eqb from from refl) ∙ ap not free)
+      (λ p l b. absurd (omega arith))))
 
 -- a slot of the words, as the machine reads it
 pub read-slot : (words : List ℕ) (s : ℕ) → s < slotsIn words → eqb (getD words (s / 64) 0 / 2 ^ (s % 64) % 2) 1 ≡ slotIn words s
@@ -399,3 +518,54 @@ module _ (v : Bool) (words : List ℕ) (s n i : ℕ) (here : i * 64 < slotsIn wo
       either flag
       (λ yes-flag. yes-flag ∙ has-all v words s n (i + 1) (has-on yes-flag before) (λ p named past. absurd (omega (arith, named .1))))
       (λ no-flag. no-flag ∙ has-not no-flag)
+
+-- ---- a run that is free and reaches no marked word
+
+-- no word below word i that the run reaches is marked
+abbrev pub UnmarkedTo : List ℕ → ℕ → ℕ → Type 0
+UnmarkedTo fulls s i = (j : ℕ) → s / 64 ≤ j → j < i → marked fulls j ≡ false
+
+module _ (words fulls : List ℕ) (s n : ℕ) where
+  abbrev seenSlots : Slots
+  seenSlots = slotIn (filled words fulls)
+
+  -- a used slot is used in the filled words too
+  pub fits-not : (flag : Bool) → flag ≡ allFree (slotIn words) s n → not flag ≡ true → false ≡ allFree seenSlots s n
+  fits-not flag told e =
+      same-test false (allFree seenSlots s n) absurd
+      (λ t. rw (sym told ∙ not-true flag e) at (finds-all-free (slotIn words) s n .1 (λ p named. free p (finds-all-free seenSlots s n .0 t p named))))
+    where
+      free : (p : ℕ) → seenSlots p ≡ false → slotIn words p ≡ false
+      free p none =
+          either (ltb p (slotsIn words))
+          (λ t. either (slotIn words p) (λ used. absurd (true≢false (sym (filled-used words fulls p (ltb-true p (slotsIn words) t) used) ∙ none))) (λ e. e))
+          (λ t. slot-past words p (ltb-false p (slotsIn words) t))
+
+  -- a run of no slots fits anywhere
+  pub fits-none : n ≡ 0 → true ≡ allFree seenSlots s n
+  fits-none none = has-all false (filled words fulls) s n 0 (λ p named b. absurd (omega arith)) (λ p named b. absurd (omega (arith, none, named .0, named .1)))
+
+  -- a word of the run that is marked holds one of its slots: the run's first, or its own first
+  pub fits-marked : (i : ℕ) → s / 64 ≤ i → i * 64 < endIn (slotsIn words) s n → (n ≡ 0 → ⊥) → marked fulls i ≡ true → false ≡ allFree seenSlots s n
+  unfolding endIn
+  fits-marked i l ends some is =
+      either (leb s (i * 64))
+      (λ t. let from = leb-true s (i * 64) t in held (i * 64) (from, omega arith) (omega arith) (omega arith))
+      (λ t. let from = leb-false s (i * 64) t in held s (le-refl s, omega (arith, pos-of-ne-zero some)) (omega arith) (omega (arith, word-there words i (omega arith) .2)))
+    where
+      held : (p : ℕ) → Named s n p → p / 64 ≡ i → p < slotsIn words → false ≡ allFree seenSlots s n
+      held p named at inside = run-has-not false seenSlots s n p named (filled-marked words fulls p inside (ap (marked fulls) at ∙ is))
+
+  -- where none of its words is marked, the filled words are free there as the words are
+  pub fits-all : (flag : Bool) → flag ≡ allFree (slotIn words) s n → not flag ≡ false → (i : ℕ) → endIn (slotsIn words) s n ≤ i * 64 → UnmarkedTo fulls s i
+      → true ≡ allFree seenSlots s n
+  unfolding endIn
+  fits-all flag told e i ends unmarked = same-test true (allFree seenSlots s n) (λ _. finds-all-free seenSlots s n .1 free) (λ _. tt)
+    where
+      free : (p : ℕ) → Named s n p → seenSlots p ≡ false
+      free p named =
+          either (ltb p (slotsIn words))
+          (λ t. let inside = ltb-true p (slotsIn words) t in
+          filled-open words fulls p (unmarked (p / 64) (omega (arith, named .0)) (omega (arith, named .1)))
+          ∙ finds-all-free (slotIn words) s n .0 (rw (sym told ∙ not-false flag e) tt) p named)
+          (λ t. slot-past (filled words fulls) p (rw (filled-slots words fulls) (ltb-false p (slotsIn words) t)))

@@ -3,14 +3,13 @@
 // for 256. No function refuses; each answers for every input. No map has more than 256 words: of a
 // longer row the rest is not looked at. Rests on `places`.
 ghost use mathlib.Core.Path.{_≡_};
-ghost use mathlib.Core.Bool.{not};
 ghost use Prim.Native.Nat.{_≤_, _<_, _*_, _^_};
-ghost use lib.Dec.{eqb};
 ghost use Rattle.bits.specs.Range.{bit};
 ghost use Rattle.places.specs.Places.{RunMaskSays};
 ghost use Rattle.views.specs.Painting.{slotsIn, partMask};
-ghost use Rattle.rows.specs.Rows.{GetSays, CountSays, FirstFreeSays, AllFreeSays, AllUsedSays, PaintSays, SummarySays, TouchedSays, EndOfSays, withBit};
-ghost use Rattle.views.specs.Summary.{partWords};
+ghost use Rattle.views.specs.Full.{marked as wordMarked};
+ghost use Rattle.views.specs.Marks.{partWords};
+ghost use Rattle.rows.specs.Rows.{markTest, openFrom, GetSays, CountSays, FirstFreeSays, AllFreeSays, FitsSays, AllUsedSays, PaintSays, MarksSays, TouchedSays, EndOfSays, withBit};
 
 // Where the masks of a run come from: claim and set read the table of low masks, take and free build
 // them by shifts.
@@ -18,12 +17,19 @@ pub const TABLE: bool = true;
 
 pub const SHIFTS: bool = false;
 
+// Which words are marked: those that are not 0, or those that are all ones.
+pub const USED: bool = false;
+
+pub const FULL: bool = true;
+
 const MOST_WORDS: usize = 256;
 
 const MOST_SLOTS: usize = 16384;
 
-// How many bits a summary has.
+// How many words a mark tells of, a bit each.
 const PARTS: usize = 16;
+
+const ALL: u64 = 0xffff_ffff_ffff_ffff;
 
 // Whether the slot is used; past the words, no.
 pub fn get(words: &[u64], slot: usize) -> bool
@@ -36,7 +42,7 @@ pub fn get(words: &[u64], slot: usize) -> bool
 }
 
 // How many slots are used.
-pub fn count(words: &[u64]) -> usize
+pub fn count(words: &[u64]) -> u16
     ensures { λ r. ⌜ CountSays (now (words .entry)) r ⌝ }
 {
     let end = slots(words);
@@ -46,14 +52,15 @@ pub fn count(words: &[u64]) -> usize
         total = total + places::count(words[i]);
         i += 1;
     }
-    total
+    total as u16
 }
 
 // The least free slot from `from` on, those past the words among them; 16,384 where `from` is there
-// or beyond. That slot itself is asked first, and only then words: where it is free, a search goes on
-// without waiting for a count of zeros.
-pub fn first_free(words: &[u64], from: usize) -> usize
-    ensures { λ r. ⌜ FirstFreeSays (now (words .entry)) from r ⌝ }
+// or beyond. The slot `from` itself is asked first, and only then words: where it is free, a search goes
+// on without waiting for a count of zeros. `fulls` marks full words, sixteen to a mark: from there on a
+// word that is marked counts as full, whatever it holds, and is passed over.
+pub fn first_free<'a>(words: &'a [u64], fulls: &'a [u16], from: usize) -> usize
+    ensures { λ r. ⌜ FirstFreeSays (now (words .entry)) (now (fulls .entry)) from r ⌝ }
 {
     if MOST_SLOTS <= from {
         return MOST_SLOTS;
@@ -64,14 +71,16 @@ pub fn first_free(words: &[u64], from: usize) -> usize
     let end = slots(words);
     let mut start = from;
     while start < end {
-        let first = start / 64 * 64;
-        let place = places::first_free(words[start / 64], start % 64);
+        let i = start / 64;
+        let place = places::first_free(words[i], start % 64);
         if place < 64 {
-            return first + place;
+            if !marked(fulls, i) {
+                return i * 64 + place;
+            }
         }
-        start = first + 64;
+        start = next_open(fulls, i + 1) * 64;
     }
-    start
+    end
 }
 
 // Whether each of the n slots from `start` on is free, asked word by word: the run's part of its first
@@ -98,6 +107,28 @@ pub fn all_free(words: &[u64], start: usize, n: usize) -> bool
         return true;
     }
     places::all_free(words[i], places::run_mask(0, end - i * 64))
+}
+
+// The same where `fulls` marks full words, sixteen to a mark: no slot of a word that is marked counts as
+// free.
+pub fn fits<'a>(words: &'a [u64], fulls: &'a [u16], start: usize, n: usize) -> bool
+    ensures { λ r. ⌜ FitsSays (now (words .entry)) (now (fulls .entry)) start n r ⌝ }
+{
+    if !all_free(words, start, n) {
+        return false;
+    }
+    if n == 0 {
+        return true;
+    }
+    let end = end_of(slots(words), start, n);
+    let mut i = start / 64;
+    while i * 64 < end {
+        if marked(fulls, i) {
+            return false;
+        }
+        i += 1;
+    }
+    true
 }
 
 // Whether each of the n slots from `start` on is used, asked word by word; past the words, none is.
@@ -138,50 +169,60 @@ pub fn paint(words: &mut [u64], start: usize, n: usize, used: bool, table: bool)
     }
 }
 
-// ---- a summary of a part of the words, sixteen at most: bit i is 1 exactly if word i is not 0
+// ---- marks of a part of the words, sixteen at most: bit i is 1 exactly if word i is not 0, or exactly
+// if it is all ones, as `full` says, which is `USED` or `FULL`
 
-// The summary that a part has.
-pub fn summary(part: &[u64]) -> u16
-    ensures { λ r. ⌜ SummarySays (now (part .entry)) r ⌝ }
+// The marks that a part has.
+pub fn marks(part: &[u64], full: bool) -> u16
+    ensures { λ r. ⌜ MarksSays (now (part .entry)) full r ⌝ }
 {
     let end = words_of(part);
-    let mut summary = 0;
+    let mut marks = 0;
     let mut i = 0;
     while i < end {
-        summary = summary | used_bit(part[i], i);
+        marks = marks | mark_bit(part[i], i, full);
         i += 1;
     }
-    summary
+    marks
 }
 
-// The summary with the bit of each word that the n slots from `start` on reach brought up to date,
-// set or cleared; the other bits stay.
-pub fn touched(part: &[u64], summary: u16, start: usize, n: usize) -> u16
-    ensures { λ r. ⌜ TouchedSays (now (part .entry)) summary start n r ⌝ }
+// The marks with the bit of each word that the n slots from `start` on reach brought up to date, set or
+// cleared; the other bits stay.
+pub fn touched(part: &[u64], marks: u16, start: usize, n: usize, full: bool) -> u16
+    ensures { λ r. ⌜ TouchedSays (now (part .entry)) marks start n full r ⌝ }
 {
     let end = end_of(words_of(part) * 64, start, n);
-    let mut updated = summary;
+    let mut updated = marks;
     let mut i = start / 64;
     while i * 64 < end {
-        updated = with_bit(updated, part[i], i);
+        updated = with_bit(updated, part[i], i, full);
         i += 1;
     }
     updated
 }
 
-// The summary with bit i as the word has it.
-fn with_bit(summary: u16, word: u64, i: usize) -> u16
+// The marks with bit i as the word has it.
+fn with_bit(marks: u16, word: u64, i: usize, full: bool) -> u16
     requires { ⌜ i < 16 ⌝ }
-    ensures { λ r. ⌜ r ≡ withBit summary (not (eqb word 0)) i ⌝ }
+    ensures { λ r. ⌜ r ≡ withBit marks (markTest full word) i ⌝ }
 {
-    (summary & !(1 << i)) | used_bit(word, i)
+    (marks & !(1 << i)) | mark_bit(word, i, full)
 }
 
-fn used_bit(word: u64, i: usize) -> u16
+fn mark_bit(word: u64, i: usize, full: bool) -> u16
     requires { ⌜ i < 16 ⌝ }
-    ensures { λ r. ⌜ r ≡ bit (not (eqb word 0)) * 2 ^ i ⌝ }
+    ensures { λ r. ⌜ r ≡ bit (markTest full word) * 2 ^ i ⌝ }
 {
-    ((word != 0) as u16) << i
+    (is_marked(word, full) as u16) << i
+}
+
+fn is_marked(word: u64, full: bool) -> bool
+    ensures { λ r. ⌜ r ≡ markTest full word ⌝ }
+{
+    if full {
+        return word == ALL;
+    }
+    word != 0
 }
 
 // How many words a part has, sixteen at most.
@@ -192,6 +233,44 @@ fn words_of(part: &[u64]) -> usize
         return PARTS;
     }
     part.len()
+}
+
+// ---- going by the marks of full words
+
+// Whether word i is marked; past the marks, no.
+fn marked(fulls: &[u16], i: usize) -> bool
+    ensures { λ r. ⌜ r ≡ wordMarked (now (fulls .entry)) i ⌝ }
+{
+    if fulls.len() <= i / PARTS {
+        return false;
+    }
+    (fulls[i / PARTS] >> (i % PARTS)) % 2 == 1
+}
+
+// The least word from `from` on that is not marked, or 256: the first free place of a mark.
+fn next_open(fulls: &[u16], from: usize) -> usize
+    requires { ⌜ from ≤ 256 ⌝ }
+    ensures { λ r. ⌜ r ≡ openFrom (now (fulls .entry)) from ⌝ }
+{
+    let mut i = from;
+    while i < MOST_WORDS {
+        if fulls.len() <= i / PARTS {
+            return i;
+        }
+        let first = i / PARTS * PARTS;
+        let place = places::first_free(wide(fulls[i / PARTS]), i % PARTS);
+        if place < PARTS {
+            return first + place;
+        }
+        i = first + PARTS;
+    }
+    MOST_WORDS
+}
+
+fn wide(mark: u16) -> u64
+    ensures { λ r. ⌜ r ≡ mark ⌝ }
+{
+    mark as u64
 }
 
 // ---- runs

@@ -11,8 +11,8 @@ use Rattle.slots.specs.Sets.{Slots, none, all, painted, painted-named}
 use Rattle.slots.specs.Calls.{capacity}
 use Rattle.slots.specs.View.{made-alike}
 use Rattle.views.specs.Words.{listed}
-use Rattle.views.specs.Summary.{summaryOf}
-use Rattle.views.specs.Summaries.{treeWords, summariesOf}
+use Rattle.views.specs.Marks.{marksOf}
+use Rattle.views.specs.Trees.{treeWords, eachOf}
 use Rattle.third.specs.declared.Third.{Third}
 use Rattle.third.specs.declared.Changed.{Changed}
 use Rattle.third.specs.Layout.{slotOf, ofSlots, Sound, thirdView, of-slots-under}
@@ -25,7 +25,7 @@ use Rattle.same.specs.Seen.{set-leaves}
 use Rattle.same.specs.AnyMap.{SameCalls, same-calls}
 use Rattle.same.specs.Thirds.{ours, theirs, IsBitmap, holds, GoodThird, acts-16384, seen-16384, is-good, theirs-is-bitmap}
 
--- each map of ours is `ours` of one value of the source's type, and of no other (`ours-theirs`, `theirs-ours`)
+-- each sound map of ours is `ours` of one value of the source's type, and of no other (`ours-theirs`, `theirs-ours`)
 pub third-same : (t : Bitmap16384) → IsBitmap t → Sound (ours t) → SameCalls thirdView Allocator16384 ours Changed answerOf (λ r. r .map) t
 unfolding leadingZeros
 third-same t typed sound =
@@ -34,7 +34,7 @@ third-same t typed sound =
 -- ---- what needs no map
 
 pub new-empty-same : (r : Third) → NewEmptySays r → r ≡ ours default16384
-unfolding number listed treeWords flatMap summariesOf summaryOf
+unfolding number listed treeWords flatMap marksOf eachOf
 new-empty-same r outcome = outcome ∙ sym (of-slots-under none)
 
 default-is-bitmap : IsBitmap default16384

@@ -1,5 +1,5 @@
--- The commit's tree of sixteen trees, as our third level: the words of its trees in a row, under the summaries of its trees and its own. Rests on `Trees`,
--- and on the trees of `third`.
+-- The commit's tree of sixteen trees, as our third level: the words of its trees in a row, under the summaries of its trees and its own. The
+-- source keeps no marks of full words and no counts; ours are those of the words. Rests on `Trees`, and on the trees of `third`.
 use mathlib.Core.Path.{_≡_, refl, sym, ap, ap₂, subst, _∙_}
 use mathlib.Core.Bool.{not}
 use mathlib.Core.List.{List, [], _∷_, _++_, map, flatMap}
@@ -10,12 +10,16 @@ use lib.Seq.{take-at, drop-append-add, ext-getD}
 use Rattle.bits.specs.Digits.{digit, number-is, digit-number}
 use Rattle.slots.specs.Sets.{Slots, allFree}
 use Rattle.views.specs.Words.{listed, length-listed, listed-first, listed-is}
-use Rattle.views.specs.Summaries.{treeWords, tree-word, tree-words, tree-free, usedTree, topOf, topKept}
+use Rattle.views.specs.Marks.{marksOf}
+use Rattle.views.specs.Full.{fullOf}
+use Rattle.views.specs.Count.{countOf}
+use Rattle.views.specs.Trees.{treeWords, tree-word, tree-words, eachOf, each-at}
+use Rattle.views.specs.Summaries.{tree-free, usedTree, topOf, topKept}
 use Rattle.tree.specs.declared.Tree.{Tree}
 use Rattle.tree.specs.Layout as Tree
-use Rattle.tree.specs.Layout.{treeOf, IsTree}
+use Rattle.tree.specs.Layout.{storedOf, treeOf, IsTree, is-tree-means}
 use Rattle.third.specs.declared.Third.{Third}
-use Rattle.third.specs.Layout.{thirdOf, slotOf, treeAt, Sound, IsThird, thirdView, sound-means, sound-by-summaries, tree-slots}
+use Rattle.third.specs.Layout.{thirdOf, slotOf, treeAt, fullsKept, countsKept, Sound, IsThird, thirdView, sound-means, sound-by-fields, is-third-means, are-words, tree-slots}
 use Rattle.source.specs.BitmapAllocator.{Bitmap1024, new-empty-tree, Allocator1024, Bitmap16384, Allocator16384}
 use Rattle.same.specs.Acts.{Acts}
 use Rattle.same.specs.AnyTree as AnyTree
@@ -28,7 +32,7 @@ abbrev pub wordsOf : Bitmap16384 → List ℕ
 wordsOf t = flatMap Trees.wordsOf (t .child)
 
 abbrev pub ours : Bitmap16384 → Third
-ours t = thirdOf (wordsOf t) (map (λ (x : Bitmap1024). x .bits) (t .child)) (t .bits)
+ours t = thirdOf (wordsOf t) (map (λ (x : Bitmap1024). x .bits) (t .child)) (eachOf fullOf (wordsOf t)) (eachOf countOf (wordsOf t)) (t .bits)
 
 -- tree i
 abbrev pub childAt : Bitmap16384 → ℕ → Bitmap1024
@@ -88,34 +92,42 @@ word-of-tree m w =
 
 module _ (t : Bitmap16384) (typed : IsBitmap t) where
   sixteens : Sixteens (t .child)
-  sixteens i l = typed .each i (rw (typed .many) at l) .is-map .so-many
+  sixteens i l = Tree.are-words _ (typed .each i (rw (typed .many) at l)) .so-many
 
   pub tree-is : (i : ℕ) → i < 16 → treeAt (ours t) i ≡ Trees.ours (childAt t i)
-  tree-is i l = ap₂ treeOf (row-part (t .child) sixteens i (rw (typed .many) l)) (List·getD-map (λ (x : Bitmap1024). x .bits) (t .child) i new-empty-tree)
+  tree-is i l =
+      (λ j. treeOf (treeWords (wordsOf t) i) (storedOf (List·getD-map (λ (x : Bitmap1024). x .bits) (t .child) i new-empty-tree j)
+      (each-at fullOf (wordsOf t) i l j) (each-at countOf (wordsOf t) i l j)))
+      ∙ ap (λ (words : List ℕ). Trees.under words (childAt t i .bits)) (row-part (t .child) sixteens i (rw (typed .many) l))
 
   word-fits : (w : ℕ) → w < 256 → getD (wordsOf t) w 0 < 2 ^ 64
   word-fits w l =
       rw (word-of-tree (ours t) w ∙ ap (λ (x : Tree). getD (x .words) (w % 16) 0) (tree-is (w / 16) (omega arith)))
-      (typed .each (w / 16) (omega arith) .is-map .each-fits (w % 16) (omega arith))
+      (Tree.are-words _ (typed .each (w / 16) (omega arith)) .each-fits (w % 16) (omega arith))
 
   pub is-third : IsThird (ours t)
-  is-third = record {
-    is-map = record {
-      is-map = record { so-many = row-length (t .child) sixteens ∙ ap (λ (n : ℕ). 16 * n) (typed .many); each-fits = word-fits };
-      is-field = record {
-        so-many = length-map (t .child) (λ (x : Bitmap1024). x .bits) ∙ typed .many;
-        each-fits = λ i l. rw (List·getD-map (λ (x : Bitmap1024). x .bits) (t .child) i new-empty-tree) (typed .each i l .is-field);
-      };
-    };
-    is-field = typed .fits;
-  }
+  unfolding eachOf marksOf
+  is-third =
+      let fulls = fullsKept .made-field (wordsOf t) in
+      let counts = countsKept .made-field (wordsOf t) in
+      is-third-means (ours t) .1 (
+        row-length (t .child) sixteens ∙ ap (λ (n : ℕ). 16 * n) (typed .many),
+        word-fits,
+        length-map (t .child) (λ (x : Bitmap1024). x .bits) ∙ typed .many,
+        λ i l. rw (List·getD-map (λ (x : Bitmap1024). x .bits) (t .child) i new-empty-tree) (is-tree-means _ .0 (typed .each i l) .2),
+        fulls .so-many,
+        fulls .each-fits,
+        counts .so-many,
+        counts .each-fits,
+        typed .fits,
+      )
 
   -- ---- its slots and its summary are ours
 
   child-slots : (i s : ℕ) → i < 16 → s < 1024 → slotAt (t .child) i s ≡ Tree.slotOf (treeAt (ours t) i) s
   child-slots i s l h =
       ap (λ (X : Slots). X s) (AnyTree.slot-at Allocator1024 10 Trees.holds Trees.GoodTree acts-1024 few new-empty-tree (t .child) i (rw (typed .many) l))
-      ∙ Trees.slots-alike (childAt t i) (typed .each i l .is-map .so-many) s h
+      ∙ Trees.slots-alike (childAt t i) (Tree.are-words _ (typed .each i l) .so-many) s h
       ∙ ap (λ (x : Tree). Tree.slotOf x s) (sym (tree-is i l))
 
   slots-alike : (s : ℕ) → s < 16384 → holds t s ≡ slotOf (ours t) s
@@ -126,7 +138,7 @@ module _ (t : Bitmap16384) (typed : IsBitmap t) where
 
   bit-is : (i : ℕ) → i < 16 → usedTree (wordsOf t) i ≡ not (allFree (slotAt (t .child) i) 0 1024)
   bit-is i l = ap not (
-      sym (tree-free (wordsOf t) (is-third .is-map .is-map) i l)
+      sym (tree-free (wordsOf t) (are-words (ours t) is-third) i l)
       ∙ sym (free-alike 10 (slotAt (t .child) i) (Tree.slotOf (treeAt (ours t) i)) (λ s h. child-slots i s l h)))
 
   -- every sound map of ours is one of these
@@ -141,7 +153,7 @@ module _ (t : Bitmap16384) (typed : IsBitmap t) where
     };
     fits = typed .fits;
     right = λ i l.
-        ap (λ (b : ℕ). digit b i) (sound-by-summaries (ours t) is-third .0 sound .1) ∙ digit-number (usedTree (wordsOf t)) 16 i l ∙ bit-is i l;
+        ap (λ (b : ℕ). digit b i) (sound-by-fields (ours t) is-third .0 sound .3) ∙ digit-number (usedTree (wordsOf t)) 16 i l ∙ bit-is i l;
   }
 
 -- and each of these is a sound map
@@ -158,44 +170,60 @@ module _ (t : Bitmap16384) (good : GoodThird t) where
       let top : t .bits ≡ topOf (wordsOf t) = number-is 16 (t .bits) (usedTree (wordsOf t)) (good .fits) (λ i l. good .right i l ∙ sym (bit-is t is-bitmap i l)) in
       sound-means (ours t) .1 (
         λ i l. subst Tree.Sound (sym (tree-is t is-bitmap i l)) (seen-1024 .is-sound (childAt t i) (child-good i l)),
-        rw top (topKept .made-agrees (record { map = wordsOf t; kept = ours t .summaries }) (is-third t is-bitmap .is-map)),
+        rw top (topKept .made-agrees (record { map = wordsOf t; kept = ours t .summaries }) (is-third t is-bitmap .is-map .is-map .is-map)),
       )
 
 pub seen-16384 : Seen thirdView holds GoodThird ours
 seen-16384 = record { is-sound = sound; is-map = λ t good. is-third t (is-bitmap t good); alike = λ t good. slots-alike t (is-bitmap t good) }
 
--- ---- every map of ours is one of these, and each of these one map
+-- ---- every sound map of ours is one of these, and each of these one map
 
 -- a map is known by its trees and the summary over them
 known-by-trees : (m q : Third) → IsThird m → IsThird q → ((i : ℕ) → i < 16 → treeAt m i ≡ treeAt q i) → m .summary ≡ q .summary → m ≡ q
-known-by-trees m q hm hq same top = λ i. thirdOf (words i) (summaries i) (top i)
+known-by-trees m q hm hq same top = λ i. thirdOf (words i) (summaries i) (fulls i) (counts i) (top i)
   where
     words : m .words ≡ q .words
-    words = ext-getD 0 (m .words) (q .words) (hm .is-map .is-map .so-many ∙ sym (hq .is-map .is-map .so-many)) (λ w l.
-        let inside : w < 256 = rw (hm .is-map .is-map .so-many) at l in
+    words = ext-getD 0 (m .words) (q .words) (are-words m hm .so-many ∙ sym (are-words q hq .so-many)) (λ w l.
+        let inside : w < 256 = rw (are-words m hm .so-many) at l in
         word-of-tree m w ∙ ap (λ (x : Tree). getD (x .words) (w % 16) 0) (same (w / 16) (omega arith)) ∙ sym (word-of-tree q w))
 
+    -- sixteen fields that are alike one by one
+    alike : (fs gs : List ℕ) → length fs ≡ 16 → length gs ≡ 16 → ((i : ℕ) → i < 16 → getD fs i 0 ≡ getD gs i 0) → fs ≡ gs
+    alike fs gs f g each = ext-getD 0 fs gs (f ∙ sym g) (λ i l. each i (rw f at l))
+
     summaries : m .summaries ≡ q .summaries
-    summaries = ext-getD 0 (m .summaries) (q .summaries) (hm .is-map .is-field .so-many ∙ sym (hq .is-map .is-field .so-many)) (λ i l.
-        ap (λ (x : Tree). x .summary) (same i (rw (hm .is-map .is-field .so-many) at l)))
+    summaries = alike (m .summaries) (q .summaries) (is-third-means m .0 hm .2) (is-third-means q .0 hq .2) (λ i l. ap (λ (x : Tree). x .summary) (same i l))
+
+    fulls : m .fulls ≡ q .fulls
+    fulls = alike (m .fulls) (q .fulls) (is-third-means m .0 hm .4) (is-third-means q .0 hq .4) (λ i l. ap (λ (x : Tree). x .full) (same i l))
+
+    counts : m .counts ≡ q .counts
+    counts = alike (m .counts) (q .counts) (is-third-means m .0 hm .6) (is-third-means q .0 hq .6) (λ i l. ap (λ (x : Tree). x .count) (same i l))
 
 abbrev pub theirs : Third → Bitmap16384
 theirs m = record { bits = m .summary; child = listed (λ i. Trees.theirs (treeAt m i)) 0 16 }
 
 module _ (m : Third) (held : IsThird m) where
-  their-tree : (i : ℕ) → i < 16 → Trees.ours (childAt (theirs m) i) ≡ treeAt m i
-  their-tree i l = ap Trees.ours (listed-first (λ j. Trees.theirs (treeAt m j)) 16 i new-empty-tree l) ∙ Trees.ours-theirs (treeAt m i)
+  their-child : (i : ℕ) → i < 16 → childAt (theirs m) i ≡ Trees.theirs (treeAt m i)
+  their-child i l = listed-first (λ j. Trees.theirs (treeAt m j)) 16 i new-empty-tree l
 
   pub theirs-is-bitmap : IsBitmap (theirs m)
   theirs-is-bitmap = record {
     many = length-listed (λ j. Trees.theirs (treeAt m j)) 0 16;
-    each = λ i l. subst IsTree (sym (their-tree i l))
-        (record { is-map = tree-words (m .words) (held .is-map .is-map) i l; is-field = held .is-map .is-field .each-fits i l });
-    fits = held .is-field;
+    each = λ i l. subst (λ (x : Bitmap1024). IsTree (Trees.ours x)) (sym (their-child i l))
+        (Trees.theirs-is-tree (treeAt m i) (tree-words (m .words) (are-words m held) i l) (is-third-means m .0 held .3 i l));
+    fits = is-third-means m .0 held .8;
   }
 
-  pub ours-theirs : ours (theirs m) ≡ m
-  ours-theirs = known-by-trees (ours (theirs m)) m (is-third (theirs m) theirs-is-bitmap) held (λ i l. tree-is (theirs m) theirs-is-bitmap i l ∙ their-tree i l) refl
+  tree-held : (i : ℕ) → i < 16 → IsTree (treeAt m i)
+  tree-held i l =
+      let h = is-third-means m .0 held in
+      let words = tree-words (m .words) (are-words m held) i l in
+      is-tree-means (treeAt m i) .1 (words .so-many, words .each-fits, h .3 i l, h .5 i l, h .7 i l)
+
+  pub ours-theirs : Sound m → ours (theirs m) ≡ m
+  ours-theirs sound = known-by-trees (ours (theirs m)) m (is-third (theirs m) theirs-is-bitmap) held
+      (λ i l. tree-is (theirs m) theirs-is-bitmap i l ∙ ap Trees.ours (their-child i l) ∙ Trees.ours-theirs (treeAt m i) (tree-held i l) (sound-means m .0 sound .0 i l)) refl
 
 pub theirs-ours : (t : Bitmap16384) → IsBitmap t → theirs (ours t) ≡ t
 theirs-ours t typed = λ i. record { bits = t .bits; child = children i }

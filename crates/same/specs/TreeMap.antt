@@ -7,6 +7,7 @@ use lib.Count.{leadingZeros}
 use Rattle.bits.specs.Digits.{number}
 use Rattle.slots.specs.Calls.{capacity}
 use Rattle.views.specs.Words.{listed}
+use Rattle.views.specs.Marks.{marksOf}
 use Rattle.tree.specs.declared.Tree.{Tree}
 use Rattle.tree.specs.declared.Changed.{Changed}
 use Rattle.tree.specs.Layout.{Sound, IsTree, treeView}
@@ -24,11 +25,11 @@ tree-same t held sound =
 -- ---- what needs no map
 
 pub new-empty-same : (r : Tree) → NewEmptySays r → r ≡ ours new-empty-tree
-unfolding number listed
+unfolding number listed marksOf
 new-empty-same r outcome = outcome
 
 pub new-full-same : (r : Tree) → NewFullSays r → r ≡ ours new-full-tree
-unfolding number listed
+unfolding number listed marksOf
 new-full-same r outcome = outcome
 
 pub capacity-same : (r : ℕ) → CapacitySays r → r ≡ Allocator1024 .CAPACITY

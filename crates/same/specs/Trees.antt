@@ -1,16 +1,22 @@
--- The commit's tree of sixteen words, as our tree: the same words under the same summary. Rests on `AnyTree`, and on the summary of `views`.
-use mathlib.Core.Path.{_≡_, refl, sym, ap, fun-ext, _∙_}
+-- The commit's tree of sixteen words, as our tree: the same words under the same summary. The source keeps no mark of full words and no count; ours are those of
+-- the words. Rests on `AnyTree`, and on the summary of `views`.
+use mathlib.Core.Path.{_≡_, refl, sym, ap, subst, fun-ext, _∙_}
 use mathlib.Core.Bool.{not}
 use mathlib.Core.List.{List, [], _∷_, map, map-map, map-id}
 use Prim.Native.Nat.{ℕ, zero, suc, _/_, _%_, _^_, _≤_, _<_}
 use native.Mathlib.Omega.{arith}
 use lib.ListN.{length, getD, length-map, List·getD-map}
-use Rattle.bits.specs.Digits.{digit, number-is, digit-number, zero-digit}
+use Rattle.bits.specs.Digits.{digit, number-is, digit-number, number-lt, zero-digit}
 use Rattle.slots.specs.Sets.{Slots, allFree}
 use Rattle.views.specs.Painting.{slots-all, slot-there}
+use Rattle.views.specs.Words.{AreWords}
+use Rattle.views.specs.Marks.{passesAt, marksOf}
 use Rattle.views.specs.Summary.{usedWord, summaryOf}
+use Rattle.views.specs.Full.{allOnes, fullOf}
+use Rattle.views.specs.Count.{countOf, count-fits}
 use Rattle.tree.specs.declared.Tree.{Tree}
-use Rattle.tree.specs.Layout.{treeOf, slotOf, Sound, IsTree, treeView, sound-by-summary}
+use Rattle.tree.specs.declared.Stored.{Stored}
+use Rattle.tree.specs.Layout.{storedOf, treeOf, slotOf, Sound, IsTree, treeView, sound-by-stored, is-tree-means, are-words}
 use Rattle.source.specs.BitmapAllocator.{Bitmap64, new-empty64, Bitmap1024, Allocator64, Allocator1024}
 use Rattle.same.specs.Whenever.{Whenever}
 use Rattle.same.specs.Acts.{Found, Acts}
@@ -22,15 +28,35 @@ use Rattle.same.specs.Seen.{Seen}
 abbrev pub wordsOf : Bitmap1024 → List ℕ
 wordsOf t = map (λ (x : Bitmap64). x .bits) (t .child)
 
+-- these words under this summary, with the mark and the count that are theirs
+abbrev pub under : List ℕ → ℕ → Tree
+under words summary = treeOf words (storedOf summary (fullOf words) (countOf words))
+
 abbrev pub ours : Bitmap1024 → Tree
-ours t = treeOf (wordsOf t) (t .bits)
+ours t = under (wordsOf t) (t .bits)
 
 -- and back
 abbrev pub theirs : Tree → Bitmap1024
 theirs t = record { bits = t .summary; child = map word (t .words) }
 
-pub ours-theirs : (t : Tree) → ours (theirs t) ≡ t
-ours-theirs t = ap (λ (words : List ℕ). treeOf words (t .summary)) (map-map (λ (x : Bitmap64). x .bits) word (t .words) ∙ map-id (t .words))
+words-back : (t : Tree) → wordsOf (theirs t) ≡ t .words
+words-back t = map-map (λ (x : Bitmap64). x .bits) word (t .words) ∙ map-id (t .words)
+
+-- a value of our type where its words and its summary are
+pub under-is-tree : (words : List ℕ) (summary : ℕ) → AreWords 4 words → summary < 2 ^ 16 → IsTree (under words summary)
+unfolding marksOf
+under-is-tree words summary held fits = is-tree-means (under words summary) .1 (held .so-many, held .each-fits, fits, number-lt (passesAt allOnes words) 16, count-fits words)
+
+pub theirs-is-tree : (t : Tree) → AreWords 4 (t .words) → t .summary < 2 ^ 16 → IsTree (ours (theirs t))
+theirs-is-tree t held fits = subst IsTree (ap (λ (words : List ℕ). under words (t .summary)) (sym (words-back t))) (under-is-tree (t .words) (t .summary) held fits)
+
+-- every sound tree of ours is one of these
+pub ours-theirs : (t : Tree) → IsTree t → Sound t → ours (theirs t) ≡ t
+ours-theirs t held sound =
+    let h = is-tree-means t .0 held in
+    let right = sound-by-stored t (h .2) (h .3) .0 sound in
+    ap (λ (words : List ℕ). under words (t .summary)) (words-back t)
+    ∙ (λ i. treeOf (t .words) (storedOf (t .summary) (sym right i .full) (sym right i .count)))
 
 pub theirs-ours : (t : Bitmap1024) → theirs (ours t) ≡ t
 theirs-ours t = λ i. record { bits = t .bits; child = (map-map word (λ (x : Bitmap64). x .bits) (t .child) ∙ map-id (t .child)) i }
@@ -84,26 +110,28 @@ bit-is t j fits =
 
 is-held : (t : Bitmap1024) → IsTree (ours t) → Held t
 is-held t held =
-    let long : length (t .child) ≡ 16 = sym (length-map (t .child) (λ (x : Bitmap64). x .bits)) ∙ held .is-map .so-many in
+    let long : length (t .child) ≡ 16 = sym (length-map (t .child) (λ (x : Bitmap64). x .bits)) ∙ are-words (ours t) held .so-many in
     record {
       many = long;
-      each = AnyTree.all-good Allocator64 6 holdsWord IsWord word-acts few new-empty64 (t .child) (λ i l. rw (word-at t i) at (held .is-map .each-fits i (rw long at l)));
+      each = AnyTree.all-good Allocator64 6 holdsWord IsWord word-acts few new-empty64 (t .child) (λ i l. rw (word-at t i) at (are-words (ours t) held .each-fits i (rw long at l)));
     }
 
 -- of any tree, whatever its summary
 pub next-free-finds : (t : Bitmap1024) → IsTree (ours t) → (s : ℕ) → Whenever (Allocator1024 .next-free t s) (Found 10 (holds t) s)
 next-free-finds t held s = AnyTree.next-free-finds Allocator64 6 holdsWord IsWord word-acts few t (is-held t held) s
 
--- every sound tree of ours is one of these, and each of these is a sound tree
+-- a sound tree of ours is good, and each that is good is a sound tree
 pub is-good : (t : Bitmap1024) → IsTree (ours t) → Sound (ours t) → GoodTree t
-unfolding summaryOf
-is-good t held sound = record {
-  held = is-held t held;
-  fits = held .is-field;
-  right = λ j l.
-      ap (λ (b : ℕ). digit b j) (sound-by-summary (ours t) (held .is-field) .0 sound) ∙ digit-number (usedWord (wordsOf t)) 16 j l
-      ∙ bit-is t j (held .is-map .each-fits j l);
-}
+unfolding marksOf
+is-good t held sound =
+    let h = is-tree-means (ours t) .0 held in
+    record {
+      held = is-held t held;
+      fits = h .2;
+      right = λ j l.
+          ap (λ (s : Stored). digit (s .summary) j) (sound-by-stored (ours t) (h .2) (h .3) .0 sound) ∙ digit-number (usedWord (wordsOf t)) 16 j l
+          ∙ bit-is t j (h .1 j l);
+    }
 
 module _ (t : Bitmap1024) (good : GoodTree t) where
   many : length (wordsOf t) ≡ 16
@@ -113,11 +141,14 @@ module _ (t : Bitmap1024) (good : GoodTree t) where
   fit i l = rw (word-at t i) (AnyTree.good-at Allocator64 6 holdsWord IsWord word-acts few new-empty64 (t .child) (good .held .each) i (rw (good .held .many) l))
 
   is-tree : IsTree (ours t)
-  is-tree = record { is-map = record { so-many = many; each-fits = fit }; is-field = good .fits }
+  is-tree = under-is-tree (wordsOf t) (t .bits) (record { so-many = many; each-fits = fit }) (good .fits)
 
   sound : Sound (ours t)
-  unfolding summaryOf
-  sound = sound-by-summary (ours t) (good .fits) .1 (number-is 16 (t .bits) (usedWord (wordsOf t)) (good .fits) (λ j l. good .right j l ∙ sym (bit-is t j (fit j l))))
+  unfolding marksOf
+  sound =
+      let h = is-tree-means (ours t) .0 is-tree in
+      let right : t .bits ≡ summaryOf (wordsOf t) = number-is 16 (t .bits) (usedWord (wordsOf t)) (good .fits) (λ j l. good .right j l ∙ sym (bit-is t j (fit j l))) in
+      sound-by-stored (ours t) (h .2) (h .3) .1 (λ i. storedOf (right i) (fullOf (wordsOf t)) (countOf (wordsOf t)))
 
 pub seen-1024 : Seen treeView holds GoodTree ours
 seen-1024 = record { is-sound = sound; is-map = is-tree; alike = λ t good. slots-alike t (many t good) }

@@ -10,8 +10,9 @@ use Rattle.answers.specs.declared.Answer.{Answer}
 use Rattle.answers.specs.declared.Answer.the-variants.{At, Done, Refused}
 use Rattle.slots.specs.Sets.{Slots, painted}
 use Rattle.slots.specs.Kinds.{Kind, State, plain}
+use Rattle.slots.specs.Lowest.{Fits}
 use Rattle.slots.specs.Calls.{Call, says, takeCall}
-use Rattle.slots.specs.Promises.{take-after}
+use Rattle.slots.specs.Promises.{take-promise, take-after}
 use Rattle.slots.specs.View.{View, answered, changed, accepted-sound, found-unsound, found-sound, says-refused, says-accepted}
 
 -- ---- check 1, by the flag of a branch on `!flag`
@@ -39,17 +40,26 @@ module _ {K : Kind} (L : View K) (m : L .Map) (call : Call (State K) Reply) (aft
 -- ---- a call that paints a run
 
 module _ (L : View plain) (m : L .Map) where
-  -- the set that an accepted take leaves
+  -- what an accepted take says of the set alone
+  take-says : (n a start : ℕ) → value (at start) ≡ answered L m (takeCall (L .k) (L .stateOf m) n a) → says (takeCall (L .k) (L .stateOf m) n a) ≡ value (at start)
+  take-says n a start told =
+      let call = takeCall (L .k) (L .stateOf m) n a in
+      sym (found-sound L m call (accepted-sound L m call (at start) (sym told))) ∙ sym told
+
+  -- the set that it leaves, and that its run was free and within the map
   pub take-paints : (n a start : ℕ) → value (at start) ≡ answered L m (takeCall (L .k) (L .stateOf m) n a)
       → takeCall (L .k) (L .stateOf m) n a .after ≡ painted (L .stateOf m) start n true
-  take-paints n a start told =
-      let call = takeCall (L .k) (L .stateOf m) n a in
-      take-after (L .k) (L .stateOf m) n a start (sym (found-sound L m call (accepted-sound L m call (at start) (sym told))) ∙ sym told)
+  take-paints n a start told = take-after (L .k) (L .stateOf m) n a start (take-says n a start told)
 
-  -- where the painted map is that of the painted set, as it is where the map is sound
+  pub take-fits : (n a start : ℕ) → value (at start) ≡ answered L m (takeCall (L .k) (L .stateOf m) n a) → Fits (L .k) (L .stateOf m) n a start
+  take-fits n a start told = take-promise (L .k) (L .stateOf m) n a start .0 (take-says n a start told) .3 .fits
+
+  -- where the painted map is that of the painted set, as it is where the map is sound and the call has passed its checks
   pub carries : (call : Call Slots Reply) (s n : ℕ) (v : Bool) → call .after ≡ painted (L .stateOf m) s n v
-      → (after : L .Map) → (L .isSound m ≡ true → after ≡ L .ofState (painted (L .stateOf m) s n v))
+      → (after : L .Map) → (L .isSound m ≡ true → (reply : Reply) → says call ≡ value reply → after ≡ L .ofState (painted (L .stateOf m) s n v))
       → (judge : Answer) → answerSays judge ≡ answered L m call → (left : L .Map) → left ≡ leftBy judge m after → (answerSays judge, left) ≡ changed L m call
   carries call s n v paints after right judge told left e =
       ap (λ (map : L .Map). (answerSays judge, map)) e
-      ∙ carried-out L m call after (λ reply said. right (accepted-sound L m call reply said) ∙ ap (L .ofState) (sym paints)) judge told
+      ∙ carried-out L m call after (λ reply said.
+      let sound = accepted-sound L m call reply said in
+      right sound reply (sym (found-sound L m call sound) ∙ said) ∙ ap (L .ofState) (sym paints)) judge told

@@ -221,6 +221,13 @@ module _ (k : ℕ) (S : Slots) (s n : ℕ) where
         λ g. decided .1 (g .0, λ bad. true≢false (sym (g .1 (bad .0) (bad .1)) ∙ bad .2)),
       )
 
+  -- so one that is accepted, whatever it replies, has passed these checks
+  pub claim-passed : (reply : Reply) → says (claimCall k S s n) ≡ value reply → InRange k s n × AllFree S s n
+  claim-passed reply told = claim-promise .0 (told ∙ ap value (sym (claim-decided .accepts reply .0 told .1)))
+
+  pub free-passed : (reply : Reply) → says (freeCall k S s n) ≡ value reply → InRange k s n × AllUsed S s n
+  free-passed reply told = free-promise .0 (told ∙ ap value (sym (free-decided .accepts reply .0 told .1)))
+
   pub set-promise : (v : Bool) → (says (setCall k S s n v) ≡ value ok) ↔ InRange k s n
   set-promise v = (
     λ e. let none = set-decided v .accepts ok .0 e .0 in in-range k s n (λ z. none 2 (inl (refl, z))) (λ p. none 4 (inr (inl (refl, p)))),

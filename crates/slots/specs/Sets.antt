@@ -1,11 +1,13 @@
 -- Sets of slot numbers, runs of them, and painting a run. Rests on the questions about ranges of `bits`.
-use mathlib.Core.Path.{_≡_, ap}
+use mathlib.Core.Path.{_≡_, sym, ap, ap₂, _∙_}
 use mathlib.Core.Logic.{_↔_}
 use mathlib.Core.Bool.{Bool, true, false, not}
-use Prim.Native.Nat.{ℕ, _+_, _≤_, _<_}
+use Prim.Native.Nat.{ℕ, _+_, _-_, _*_, _≤_, _<_}
+use native.Mathlib.Nat.{zero-add}
+use native.Mathlib.Omega.{arith}
 use lib.Dec.{T}
 use borrow.Author.Tests.{not-true, not-false}
-use Rattle.bits.specs.Range.{within, every, finds-every, finds-failing, within-named, within-other}
+use Rattle.bits.specs.Range.{bit, either, within, every, count, finds-every, finds-failing, within-named, within-found, within-other, count-agree, count-split, count-same}
 
 -- whether each slot is used
 abbrev pub Slots : Type 0
@@ -85,3 +87,35 @@ module _ (S : Slots) (s n : ℕ) where
   pub painted-other : (v : Bool) (i : ℕ) → (Named s n i → ⊥) → painted S s n v i ≡ S i
   unfolding painted
   painted-other v i h = rw (within-other s n i h, painted)
+
+-- ---- how many slots are used
+
+-- the first s slots, the n that are painted, and the r after them
+painted-parts : (S : Slots) (s n r : ℕ) (v : Bool) → count (painted S s n v) 0 (s + (n + r)) ≡ count S 0 s + (bit v * n + count S (s + n) r)
+painted-parts S s n r v =
+    count-split P 0 s (n + r)
+    ∙ ap₂ _+_ (count-agree P S 0 s (λ i l b. painted-other S s n v i (λ named. omega (arith, named .0, b))))
+    (ap (λ (from : ℕ). count P from (n + r)) (zero-add s)
+    ∙ count-split P s n r
+    ∙ ap₂ _+_ (count-same P v s n (λ i l b. painted-named S s n v i (l, b)))
+    (count-agree P S (s + n) r (λ i l b. painted-other S s n v i (λ named. omega (arith, named .1, l)))))
+  where
+    P : Slots
+    P = painted S s n v
+
+-- of a run within the first c slots: with it used there are n more than with it free
+pub painted-count : (S : Slots) (s n c : ℕ) → s + n ≤ c → count (painted S s n true) 0 c ≡ count (painted S s n false) 0 c + n
+painted-count S s n c ends = used-by true ∙ sum ∙ sym (ap (λ (m : ℕ). m + n) (used-by false))
+  where
+    used-by : (v : Bool) → count (painted S s n v) 0 c ≡ count S 0 s + (bit v * n + count S (s + n) (c - (s + n)))
+    used-by v = ap (count (painted S s n v) 0) (omega arith) ∙ painted-parts S s n (c - (s + n)) v
+
+    sum : count S 0 s + (1 * n + count S (s + n) (c - (s + n))) ≡ count S 0 s + (0 * n + count S (s + n) (c - (s + n))) + n
+    sum = omega arith
+
+-- a run that has the value already is painted with it for nothing
+pub painted-already : (S : Slots) (s n c : ℕ) (v : Bool) → ((i : ℕ) → Named s n i → S i ≡ v) → count (painted S s n v) 0 c ≡ count S 0 c
+unfolding painted
+painted-already S s n c v has = count-agree (painted S s n v) S 0 c (λ i l b.
+    either (within s n i) (λ t. painted-named S s n v i (within-found s n i t) ∙ sym (has i (within-found s n i t)))
+    (λ t. ap (λ (w : Bool). elim w [ true ↦ v | false ↦ S i ]) t))

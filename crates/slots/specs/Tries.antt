@@ -61,6 +61,12 @@ module _ (k : ℕ) (S : Slots) (start : ℕ) (inside : start < 2 ^ k) where
 -- ---- what is known at each try, and the try that follows
 
 -- no start below the try fits, and the try is not far past the end
+-- the search goes on from a slot of the map, and each slot before it is used
+pub record Ahead (k : ℕ) (S : Slots) (start free : ℕ) : Type 0 where
+  pub from : start ≤ free
+  pub inside : free < 2 ^ k
+  pub first : (i : ℕ) → start ≤ i → i < free → S i ≡ true
+
 pub record Trying (k : ℕ) (S : Slots) (n a start : ℕ) : Type 0 where
   pub known : Searched k S n a start
   pub near : start ≤ 2 ^ k + 2 ^ a
@@ -76,7 +82,7 @@ module _ (k : ℕ) (S : Slots) (n a : ℕ) (pos : 0 < n) where
   pub says-found : (start : ℕ) → LowestFit k S n a start → value start ≡ slotOrNone k (lowest k S n a)
   says-found start found = rw (lowest-is k S n a pos start found) (says-room-found k start (omega (arith, found .fits .ends)))
 
-  module _ (start : ℕ) (ends : start + n ≤ 2 ^ k) (free : ℕ) (next : NextFree k S start free) where
+  module _ (start : ℕ) (ends : start + n ≤ 2 ^ k) (free : ℕ) (next : Ahead k S start free) where
     -- the place that the next try follows: nothing fits from the try up to it, where the run at the try is not free
     passed : (p : ℕ) × (nextTry start free a ≡ nextMultiple a p) × (start ≤ p) × (p < 2 ^ k)
         × ((free ≡ start → AllFree S start n → ⊥) → (o : ℕ) → start ≤ o → o ≤ p → Fits k S n a o → ⊥)

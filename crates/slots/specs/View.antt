@@ -1,6 +1,6 @@
 -- The view of one layout: how its maps hold states of one kind, by two functions and their laws; and what follows from these for every call on any
 -- layout. Rests on `Promises`.
-use mathlib.Core.Path.{_≡_, refl, sym, ap, fun-ext, _∙_}
+use mathlib.Core.Path.{_≡_, refl, sym, ap, subst, fun-ext, _∙_}
 use mathlib.Core.Logic.{_↔_}
 use mathlib.Core.Bool.{Bool, true, false, not}
 use mathlib.Core.List.{List, _∷_}
@@ -67,6 +67,13 @@ module _ {K : Kind} (L : View K) where
       → ((p : K .Place) → K .slotFor p < 2 ^ L .k → L .stateOf m p ≡ L .stateOf q p) → m ≡ q
   same-state m q sm im sq iq agree =
       sym (L .same m sm im) ∙ made-alike (L .stateOf m) (L .stateOf q) (L .right m sm im) (L .right q sq iq) agree ∙ L .same q sq iq
+
+  -- so nothing else decides: of two sound maps with the same places, any two outcomes coincide that a contract allows which leaves one outcome of each map
+  pub places-decide : {R : Type 0} (Says : L .Map → R → Type 0) → ((m : L .Map) (r s : R) → Says m r → Says m s → r ≡ s)
+      → (m q : L .Map) → L .Sound m → L .IsMap m → L .Sound q → L .IsMap q → ((p : K .Place) → K .slotFor p < 2 ^ L .k → L .stateOf m p ≡ L .stateOf q p)
+      → (r s : R) → Says m r → Says q s → r ≡ s
+  places-decide {R} Says one-answer m q sm im sq iq agree r s says-r says-s =
+      one-answer m r s says-r (subst (λ (x : L .Map). Says x s) (sym (same-state m q sm im sq iq agree)) says-s)
 
   module _ {X A : Type 0} (m : L .Map) (c : Call X A) where
     -- demand 1: the answer is refusal r exactly when r is the least number whose fault holds, 1 among them

@@ -7,22 +7,22 @@ use Rattle.source.specs.Util.{align-up, align-down, is-aligned, page-align-up, 
 use Rattle.source.specs.Shown.{truth, number, same, all}
 
 pub answers-1 : all (
-    -- align_up_64 0 3 = 0
-    same (number (align-up 64 0 3)) (1 ∷ 0 ∷ []) ∷
+    -- is_aligned_64 0 2 = yes
+    same (truth (is-aligned 0 2)) (1 ∷ []) ∷
     -- is_aligned_64 0 64 = yes
     same (truth (is-aligned 0 64)) (1 ∷ []) ∷
     -- align_up_64 0 65 = 0
     same (number (align-up 64 0 65)) (1 ∷ 0 ∷ []) ∷
     -- is_aligned_64 0 65 = yes
     same (truth (is-aligned 0 65)) (1 ∷ []) ∷
-    -- align_up_64 0 2147483648 = 0
-    same (number (align-up 64 0 2147483648)) (1 ∷ 0 ∷ []) ∷
+    -- align_up_64 0 4096 = 0
+    same (number (align-up 64 0 4096)) (1 ∷ 0 ∷ []) ∷
+    -- is_aligned_64 0 4096 = yes
+    same (truth (is-aligned 0 4096)) (1 ∷ []) ∷
     -- align_down_64 0 2147483648 = 0
     same (number (align-down 64 0 2147483648)) (1 ∷ 0 ∷ []) ∷
     -- is_aligned_64 0 2147483648 = yes
     same (truth (is-aligned 0 2147483648)) (1 ∷ []) ∷
-    -- align_up_64 0 4294967295 = 0
-    same (number (align-up 64 0 4294967295)) (1 ∷ 0 ∷ []) ∷
     -- align_down_64 0 4294967295 = 0
     same (number (align-down 64 0 4294967295)) (1 ∷ 0 ∷ []) ∷
     -- is_aligned_64 0 4294967295 = yes
@@ -37,27 +37,31 @@ pub answers-1 : all (
     same (number (align-down 64 1 0)) (0 ∷ []) ∷
     -- is_aligned_64 1 0 = none: attempt to subtract with overflow
     same (truth (is-aligned 1 0)) (0 ∷ []) ∷
-    -- is_aligned_64 1 1 = yes
-    same (truth (is-aligned 1 1)) (1 ∷ []) ∷
+    -- align_up_64 1 1 = 1
+    same (number (align-up 64 1 1)) (1 ∷ 1 ∷ []) ∷
     -- align_down_64 1 3 = 1
     same (number (align-down 64 1 3)) (1 ∷ 1 ∷ []) ∷
     -- is_aligned_64 1 3 = yes
     same (truth (is-aligned 1 3)) (1 ∷ []) ∷
-    -- align_up_64 1 64 = 64
-    same (number (align-up 64 1 64)) (1 ∷ 64 ∷ []) ∷
     -- align_down_64 1 64 = 0
     same (number (align-down 64 1 64)) (1 ∷ 0 ∷ []) ∷
+    -- align_up_64 1 65 = 1
+    same (number (align-up 64 1 65)) (1 ∷ 1 ∷ []) ∷
     []) ≡ true
 unfolding align-up align-down is-aligned page-align-up round-to-pages page-offset overlap BIT BIT-MASK
 answers-1 = refl
 
 pub answers-2 : all (
+    -- align_up_64 1 4096 = 4096
+    same (number (align-up 64 1 4096)) (1 ∷ 4096 ∷ []) ∷
     -- is_aligned_64 1 4096 = no
     same (truth (is-aligned 1 4096)) (2 ∷ []) ∷
     -- align_down_64 1 4294967295 = 1
     same (number (align-down 64 1 4294967295)) (1 ∷ 1 ∷ []) ∷
     -- is_aligned_64 1 9223372036854775808 = no
     same (truth (is-aligned 1 9223372036854775808)) (2 ∷ []) ∷
+    -- align_up_64 1 18446744073709551615 = 1
+    same (number (align-up 64 1 18446744073709551615)) (1 ∷ 1 ∷ []) ∷
     -- align_up_64 4095 0 = none: attempt to subtract with overflow
     same (number (align-up 64 4095 0)) (0 ∷ []) ∷
     -- align_down_64 4095 0 = none: attempt to subtract with overflow
@@ -74,8 +78,6 @@ pub answers-2 : all (
     same (truth (is-aligned 4095 64)) (2 ∷ []) ∷
     -- is_aligned_64 4095 65 = no
     same (truth (is-aligned 4095 65)) (2 ∷ []) ∷
-    -- align_up_64 4095 2147483648 = 2147483648
-    same (number (align-up 64 4095 2147483648)) (1 ∷ 2147483648 ∷ []) ∷
     -- align_down_64 4095 2147483648 = 0
     same (number (align-down 64 4095 2147483648)) (1 ∷ 0 ∷ []) ∷
     -- is_aligned_64 4095 2147483648 = no
@@ -90,8 +92,6 @@ pub answers-2 : all (
     same (number (align-down 64 4096 0)) (0 ∷ []) ∷
     -- is_aligned_64 4096 0 = none: attempt to subtract with overflow
     same (truth (is-aligned 4096 0)) (0 ∷ []) ∷
-    -- is_aligned_64 4096 1 = yes
-    same (truth (is-aligned 4096 1)) (1 ∷ []) ∷
     []) ≡ true
 unfolding align-up align-down is-aligned page-align-up round-to-pages page-offset overlap BIT BIT-MASK
 answers-2 = refl
@@ -238,22 +238,12 @@ pub answers-6 : all (
     same (number (align-up 32 4294967295 64)) (0 ∷ []) ∷
     -- align_up_32 4294967295 4096 = none: attempt to add with overflow
     same (number (align-up 32 4294967295 4096)) (0 ∷ []) ∷
-    -- align_up_32 4294967295 2147483648 = none: attempt to add with overflow
-    same (number (align-up 32 4294967295 2147483648)) (0 ∷ []) ∷
-    -- round_to_pages 4096 = 1
-    same (number (round-to-pages 4096)) (1 ∷ 1 ∷ []) ∷
-    -- page_offset 4096 = 0
-    same (number (page-offset 4096)) (1 ∷ 0 ∷ []) ∷
     -- page_align_up 4097 = 8192
     same (number (page-align-up 4097)) (1 ∷ 8192 ∷ []) ∷
     -- round_to_pages 4097 = 2
     same (number (round-to-pages 4097)) (1 ∷ 2 ∷ []) ∷
     -- page_offset 4097 = 1
     same (number (page-offset 4097)) (1 ∷ 1 ∷ []) ∷
-    -- round_to_pages 65535 = 16
-    same (number (round-to-pages 65535)) (1 ∷ 16 ∷ []) ∷
-    -- page_offset 65535 = 4095
-    same (number (page-offset 65535)) (1 ∷ 4095 ∷ []) ∷
     -- page_align_up 65536 = 65536
     same (number (page-align-up 65536)) (1 ∷ 65536 ∷ []) ∷
     -- round_to_pages 65536 = 16
@@ -262,8 +252,10 @@ pub answers-6 : all (
     same (number (page-offset 65536)) (1 ∷ 0 ∷ []) ∷
     -- page_align_up 2147483647 = 2147483648
     same (number (page-align-up 2147483647)) (1 ∷ 2147483648 ∷ []) ∷
-    -- page_align_up 2147483649 = 2147487744
-    same (number (page-align-up 2147483649)) (1 ∷ 2147487744 ∷ []) ∷
+    -- round_to_pages 2147483647 = 524288
+    same (number (round-to-pages 2147483647)) (1 ∷ 524288 ∷ []) ∷
+    -- page_offset 2147483647 = 4095
+    same (number (page-offset 2147483647)) (1 ∷ 4095 ∷ []) ∷
     -- page_align_up 18446744073709551614 = none: attempt to add with overflow
     same (number (page-align-up 18446744073709551614)) (0 ∷ []) ∷
     -- round_to_pages 18446744073709551614 = none: attempt to add with overflow
@@ -272,29 +264,25 @@ pub answers-6 : all (
     same (number (page-align-up 18446744073709551615)) (0 ∷ []) ∷
     -- round_to_pages 18446744073709551615 = none: attempt to add with overflow
     same (number (round-to-pages 18446744073709551615)) (0 ∷ []) ∷
+    -- mask 0 1 = 3
+    same (number (BIT-MASK 1 0)) (1 ∷ 3 ∷ []) ∷
+    -- mask 0 2 = 7
+    same (number (BIT-MASK 2 0)) (1 ∷ 7 ∷ []) ∷
+    -- mask 0 31 = 4294967295
+    same (number (BIT-MASK 31 0)) (1 ∷ 4294967295 ∷ []) ∷
+    -- mask 0 65 = none: attempt to shift left with overflow
+    same (number (BIT-MASK 65 0)) (0 ∷ []) ∷
     []) ≡ true
 unfolding align-up align-down is-aligned page-align-up round-to-pages page-offset overlap BIT BIT-MASK
 answers-6 = refl
 
 pub answers-7 : all (
-    -- mask 0 2 = 7
-    same (number (BIT-MASK 2 0)) (1 ∷ 7 ∷ []) ∷
-    -- mask 0 32 = 8589934591
-    same (number (BIT-MASK 32 0)) (1 ∷ 8589934591 ∷ []) ∷
-    -- mask 0 65 = none: attempt to shift left with overflow
-    same (number (BIT-MASK 65 0)) (0 ∷ []) ∷
     -- mask 0 127 = none: attempt to shift left with overflow
     same (number (BIT-MASK 127 0)) (0 ∷ []) ∷
     -- bit 1 = 2
     same (number (BIT 1)) (1 ∷ 2 ∷ []) ∷
-    -- mask 1 1 = 2
-    same (number (BIT-MASK 1 1)) (1 ∷ 2 ∷ []) ∷
-    -- mask 1 31 = 4294967294
-    same (number (BIT-MASK 31 1)) (1 ∷ 4294967294 ∷ []) ∷
     -- mask 1 64 = none: attempt to shift left with overflow
     same (number (BIT-MASK 64 1)) (0 ∷ []) ∷
-    -- mask 1 65 = none: attempt to shift left with overflow
-    same (number (BIT-MASK 65 1)) (0 ∷ []) ∷
     -- bit 2 = 4
     same (number (BIT 2)) (1 ∷ 4 ∷ []) ∷
     -- mask 2 64 = 18446744073709551612
@@ -307,21 +295,12 @@ pub answers-7 : all (
     same (number (BIT-MASK 64 31)) (1 ∷ 18446744071562067968 ∷ []) ∷
     -- mask 31 65 = 18446744071562067968
     same (number (BIT-MASK 65 31)) (1 ∷ 18446744071562067968 ∷ []) ∷
-    -- bit 32 = 4294967296
-    same (number (BIT 32)) (1 ∷ 4294967296 ∷ []) ∷
     -- mask 32 0 = none: attempt to subtract with overflow
     same (number (BIT-MASK 0 32)) (0 ∷ []) ∷
     -- mask 32 31 = none: attempt to subtract with overflow
     same (number (BIT-MASK 31 32)) (0 ∷ []) ∷
     -- mask 32 64 = 18446744069414584320
     same (number (BIT-MASK 64 32)) (1 ∷ 18446744069414584320 ∷ []) ∷
-    -- mask 62 2 = none: attempt to subtract with overflow
-    same (number (BIT-MASK 2 62)) (0 ∷ []) ∷
-    []) ≡ true
-unfolding align-up align-down is-aligned page-align-up round-to-pages page-offset overlap BIT BIT-MASK
-answers-7 = refl
-
-pub answers-8 : all (
     -- bit 65 = none: attempt to shift left with overflow
     same (number (BIT 65)) (0 ∷ []) ∷
     -- bit 127 = none: attempt to shift left with overflow
@@ -338,6 +317,11 @@ pub answers-8 : all (
     same (truth (gives (overlap 0 0 1 5))) (2 ∷ []) ∷
     -- overlap 0 0 2 5 = no
     same (truth (gives (overlap 0 0 2 5))) (2 ∷ []) ∷
+    []) ≡ true
+unfolding align-up align-down is-aligned page-align-up round-to-pages page-offset overlap BIT BIT-MASK
+answers-7 = refl
+
+pub answers-8 : all (
     -- overlap 0 1 0 0 = yes
     same (truth (gives (overlap 0 1 0 0))) (1 ∷ []) ∷
     -- overlap 0 1 1 0 = yes
@@ -360,17 +344,10 @@ pub answers-8 : all (
     same (truth (gives (overlap 1 0 1 1))) (2 ∷ []) ∷
     -- overlap 1 0 5 1 = no
     same (truth (gives (overlap 1 0 5 1))) (2 ∷ []) ∷
-    -- round_to_pages 18446744073709548743 = none: attempt to add with overflow
-    same (number (round-to-pages 18446744073709548743)) (0 ∷ []) ∷
+    -- round_to_pages 18446744073709548931 = none: attempt to add with overflow
+    same (number (round-to-pages 18446744073709548931)) (0 ∷ []) ∷
+    -- page_align_up 18446744073709551614 = none: attempt to add with overflow
+    same (number (page-align-up 18446744073709551614)) (0 ∷ []) ∷
     []) ≡ true
 unfolding align-up align-down is-aligned page-align-up round-to-pages page-offset overlap BIT BIT-MASK
 answers-8 = refl
-
-pub answers-9 : all (
-    -- page_align_up 18446744073709550932 = none: attempt to add with overflow
-    same (number (page-align-up 18446744073709550932)) (0 ∷ []) ∷
-    -- page_align_up 18446744073709548161 = none: attempt to add with overflow
-    same (number (page-align-up 18446744073709548161)) (0 ∷ []) ∷
-    []) ≡ true
-unfolding align-up align-down is-aligned page-align-up round-to-pages page-offset overlap BIT BIT-MASK
-answers-9 = refl

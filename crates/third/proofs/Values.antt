@@ -23,11 +23,33 @@ module _ (t : Third) (good : Is (row the-type) t (vals the-type the-laws t)) whe
   all-summaries : length (t .summaries) ≡ 16
   all-summaries = search needs
 
-  tree-fits : (i : ℕ) → Fits w16 (getD (t .summaries) i 0)
-  tree-fits i = search needs
+  summaries-fit : (i : ℕ) → Fits w16 (getD (t .summaries) i 0)
+  summaries-fit i = search needs
+
+  all-fulls : length (t .fulls) ≡ 16
+  all-fulls = search needs
+
+  fulls-fit : (i : ℕ) → Fits w16 (getD (t .fulls) i 0)
+  fulls-fit i = search needs
+
+  all-counts : length (t .counts) ≡ 16
+  all-counts = search needs
+
+  counts-fit : (i : ℕ) → Fits w16 (getD (t .counts) i 0)
+  counts-fit i = search needs
 
   summary-fits : Fits w16 (t .summary)
   summary-fits = search needs
 
   pub is-third : IsThird t
-  is-third = is-third-means t .1 (all-words, λ i l. word-fits i .fits, all-summaries, λ i l. tree-fits i .fits, summary-fits .fits)
+  is-third = is-third-means t .1 (
+    all-words,
+    λ i l. word-fits i .fits,
+    all-summaries,
+    λ i l. summaries-fit i .fits,
+    all-fulls,
+    λ i l. fulls-fit i .fits,
+    all-counts,
+    λ i l. counts-fit i .fits,
+    summary-fits .fits,
+  )

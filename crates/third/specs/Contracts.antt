@@ -25,15 +25,27 @@ NewFullSays r = r ≡ ofSlots all
 abbrev pub HoldingSays : List ℕ → Third → Type 0
 HoldingSays words r = r ≡ holding words
 
--- the same words under other summaries; what every map lets be read
+-- the same map but for some fields; what every map lets be read
 abbrev pub WithSummariesSays : Third → List ℕ → ℕ → Third → Type 0
-WithSummariesSays t summaries summary r = r ≡ thirdOf (t .words) summaries summary
+WithSummariesSays t summaries summary r = r ≡ thirdOf (t .words) summaries (t .fulls) (t .counts) summary
+
+abbrev pub WithFullsSays : Third → List ℕ → Third → Type 0
+WithFullsSays t fulls r = r ≡ thirdOf (t .words) (t .summaries) fulls (t .counts) (t .summary)
+
+abbrev pub WithCountsSays : Third → List ℕ → Third → Type 0
+WithCountsSays t counts r = r ≡ thirdOf (t .words) (t .summaries) (t .fulls) counts (t .summary)
 
 abbrev pub WordsSays : Third → List ℕ → Type 0
 WordsSays t r = r ≡ t .words
 
 abbrev pub SummariesSays : Third → List ℕ → Type 0
 SummariesSays t r = r ≡ t .summaries
+
+abbrev pub FullsSays : Third → List ℕ → Type 0
+FullsSays t r = r ≡ t .fulls
+
+abbrev pub CountsSays : Third → List ℕ → Type 0
+CountsSays t r = r ≡ t .counts
 
 abbrev pub SummarySays : Third → ℕ → Type 0
 SummarySays t r = r ≡ t .summary

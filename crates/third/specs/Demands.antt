@@ -10,13 +10,14 @@ use Rattle.answers.specs.declared.Number.{Number}
 use Rattle.answers.specs.declared.Truth.{Truth}
 use Rattle.slots.specs.Sets.{none, all}
 use Rattle.slots.specs.Calls.{takeCall, claimCall, freeCall, setCall}
+use Rattle.slots.specs.View.{same-state, places-decide}
 use Rattle.slots.specs.Demands.{Demands, demanded}
 use Rattle.views.specs.Painting.{slotIn}
 use Rattle.views.specs.Words.{AreWords}
 use Rattle.third.specs.declared.Third.{Third}
 use Rattle.third.specs.declared.Changed.{Changed}
 use Rattle.third.specs.Layout.{holding, slotOf, ofSlots, Sound, IsThird, thirdView, holding-sound}
-use Rattle.third.specs.Contracts.{answerOf, NewEmptySays, NewFullSays, HoldingSays, WithSummariesSays, WordsSays, SummariesSays, SummarySays, TakeSays, ClaimSays, FreeSays, SetSays, NextFreeSays, GetSays, EmptySays, UsedSays, CapacitySays}
+use Rattle.third.specs.Contracts.{answerOf, NewEmptySays, NewFullSays, HoldingSays, WithSummariesSays, WithFullsSays, WithCountsSays, WordsSays, SummariesSays, FullsSays, CountsSays, SummarySays, TakeSays, ClaimSays, FreeSays, SetSays, NextFreeSays, GetSays, EmptySays, UsedSays, CapacitySays}
 
 -- ---- the demands. An outcome is a `Changed`
 
@@ -39,9 +40,19 @@ holding-is-sound words held r e = rw e (holding-sound words held)
 pub holding-holds : (words : List ℕ) (r : Third) → HoldingSays words r → (i : ℕ) → slotOf r i ≡ slotIn words i
 holding-holds words r e i = ap (λ (t : Third). slotOf t i) e
 
--- a sound map is the map made of its slots: the same slots are the same words and the same summaries
+-- a sound map is the map made of its slots: the same slots are the same words and the same fields
 pub made-of-its-slots : (t : Third) → Sound t → IsThird t → ofSlots (slotOf t) ≡ t
 made-of-its-slots t = thirdView .same t
+
+-- on a sound map the words alone decide: two with the same words are the same map
+pub words-decide : (t u : Third) → Sound t → IsThird t → Sound u → IsThird u → t .words ≡ u .words → t ≡ u
+words-decide t u st it su iu same = same-state thirdView t u st it su iu (λ i l. ap (λ (words : List ℕ). slotIn words i) same)
+
+-- so any two outcomes coincide that a contract allows on them, which leaves one outcome
+pub words-decide-outcomes : {R : Type 0} (Says : Third → R → Type 0) → ((t : Third) (r q : R) → Says t r → Says t q → r ≡ q)
+    → (t u : Third) → Sound t → IsThird t → Sound u → IsThird u → t .words ≡ u .words → (r q : R) → Says t r → Says u q → r ≡ q
+words-decide-outcomes Says one-answer t u st it su iu same =
+    places-decide thirdView Says one-answer t u st it su iu (λ i l. ap (λ (words : List ℕ). slotIn words i) same)
 
 -- ---- one answer: any two outcomes that a contract allows coincide
 
@@ -58,11 +69,23 @@ pub with-summaries-one-answer : (t : Third) (summaries : List ℕ) (summary : �
     → WithSummariesSays t summaries summary q → r ≡ q
 with-summaries-one-answer t summaries summary r q p o = p ∙ sym o
 
+pub with-fulls-one-answer : (t : Third) (fulls : List ℕ) (r q : Third) → WithFullsSays t fulls r → WithFullsSays t fulls q → r ≡ q
+with-fulls-one-answer t fulls r q p o = p ∙ sym o
+
+pub with-counts-one-answer : (t : Third) (counts : List ℕ) (r q : Third) → WithCountsSays t counts r → WithCountsSays t counts q → r ≡ q
+with-counts-one-answer t counts r q p o = p ∙ sym o
+
 pub words-one-answer : (t : Third) (r q : List ℕ) → WordsSays t r → WordsSays t q → r ≡ q
 words-one-answer t r q p o = p ∙ sym o
 
 pub summaries-one-answer : (t : Third) (r q : List ℕ) → SummariesSays t r → SummariesSays t q → r ≡ q
 summaries-one-answer t r q p o = p ∙ sym o
+
+pub fulls-one-answer : (t : Third) (r q : List ℕ) → FullsSays t r → FullsSays t q → r ≡ q
+fulls-one-answer t r q p o = p ∙ sym o
+
+pub counts-one-answer : (t : Third) (r q : List ℕ) → CountsSays t r → CountsSays t q → r ≡ q
+counts-one-answer t r q p o = p ∙ sym o
 
 pub summary-one-answer : (t : Third) (r q : ℕ) → SummarySays t r → SummarySays t q → r ≡ q
 summary-one-answer t r q p o = p ∙ sym o

@@ -1,7 +1,7 @@
--- What the third level's own helpers answer. Rests on `Layout`, on the judged calls of `judges` and on the summaries of `views`.
+-- What the third level's own helpers answer. Rests on `Layout`, on the judged calls of `judges` and on the trees of `views`.
 use mathlib.Core.Path.{_≡_}
 use mathlib.Core.Bool.{Bool, not}
-use mathlib.Core.List.{_∷_}
+use mathlib.Core.List.{List, _∷_}
 use Prim.Native.Nat.{ℕ}
 use Rattle.answers.specs.Said.{_when_, judged, onValue}
 use Rattle.answers.specs.Answers.{at, ok, answerSays, nextFreeSays}
@@ -10,7 +10,10 @@ use Rattle.answers.specs.declared.NextFree.{NextFree}
 use Rattle.slots.specs.Calls.{rangeChecks, takeCall}
 use Rattle.slots.specs.View.{answered}
 use Rattle.views.specs.Painting.{paintedWords}
-use Rattle.views.specs.Summaries.{renewedSummaries}
+use Rattle.views.specs.Summary.{summaryOf}
+use Rattle.views.specs.Full.{fullOf}
+use Rattle.views.specs.Count.{countOf}
+use Rattle.views.specs.Trees.{renewed, sumFirst}
 use Rattle.judges.specs.Judged.{changeCall}
 use Rattle.third.specs.declared.Third.{Third}
 use Rattle.third.specs.Layout.{under, slotOf, thirdView}
@@ -28,6 +31,12 @@ ChangeJudged t start n used r = answerSays r ≡ answered thirdView t (changeCal
 abbrev pub TakeJudged : Third → ℕ → ℕ → NextFree → Type 0
 TakeJudged t n a r = onValue at (nextFreeSays r) ≡ answered thirdView t (takeCall 14 (slotOf t) n a)
 
--- the map with a run painted, and the summaries of the trees that it reaches made anew
+-- the sum of sixteen counts
+abbrev pub TotalSays : List ℕ → ℕ → Type 0
+TotalSays counts r = r ≡ sumFirst counts 16
+
+-- the map with a run painted, and what is stored of the trees that it reaches made anew
 abbrev pub paintedThird : Third → ℕ → ℕ → Bool → Third
-paintedThird t start n used = under (paintedWords (t .words) start n used) (renewedSummaries (paintedWords (t .words) start n used) (t .summaries) start n)
+paintedThird t start n used =
+    let left = paintedWords (t .words) start n used in
+    under left (renewed summaryOf left (t .summaries) start n) (renewed fullOf left (t .fulls) start n) (renewed countOf left (t .counts) start n)

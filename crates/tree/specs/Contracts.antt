@@ -12,7 +12,8 @@ use Rattle.slots.specs.Calls.{Call, takeCall, claimCall, freeCall, setCall, nex
 use Rattle.slots.specs.View.{answered, changed}
 use Rattle.tree.specs.declared.Tree.{Tree}
 use Rattle.tree.specs.declared.Changed.{Changed}
-use Rattle.tree.specs.Layout.{treeOf, holding, slotOf, ofSlots, treeView}
+use Rattle.tree.specs.declared.Stored.{Stored}
+use Rattle.tree.specs.Layout.{storedOf, theirs, treeOf, holding, slotOf, ofSlots, treeView}
 
 -- the answer and the map, as the meaning has them
 abbrev pub Leaves : Tree → Call Slots Reply → Changed → Type 0
@@ -27,15 +28,27 @@ NewFullSays r = r ≡ ofSlots all
 abbrev pub HoldingSays : List ℕ → Tree → Type 0
 HoldingSays words r = r ≡ holding words
 
--- the same words under another summary; what every tree lets be read
+-- the same tree but for one field; what every tree lets be read
 abbrev pub WithSummarySays : Tree → ℕ → Tree → Type 0
-WithSummarySays t summary r = r ≡ treeOf (t .words) summary
+WithSummarySays t summary r = r ≡ treeOf (t .words) (storedOf summary (t .full) (t .count))
+
+abbrev pub WithFullSays : Tree → ℕ → Tree → Type 0
+WithFullSays t full r = r ≡ treeOf (t .words) (storedOf (t .summary) full (t .count))
+
+abbrev pub WithCountSays : Tree → ℕ → Tree → Type 0
+WithCountSays t count r = r ≡ treeOf (t .words) (storedOf (t .summary) (t .full) count)
 
 abbrev pub WordsSays : Tree → List ℕ → Type 0
 WordsSays t r = r ≡ t .words
 
 abbrev pub SummarySays : Tree → ℕ → Type 0
 SummarySays t r = r ≡ t .summary
+
+abbrev pub FullSays : Tree → ℕ → Type 0
+FullSays t r = r ≡ t .full
+
+abbrev pub CountSays : Tree → ℕ → Type 0
+CountSays t r = r ≡ t .count
 
 abbrev pub TakeSays : Tree → ℕ → ℕ → Changed → Type 0
 TakeSays t n a r = Leaves t (takeCall 10 (slotOf t) n a) r
@@ -63,3 +76,11 @@ UsedSays t r = numberSays r ≡ answered treeView t (usedCall 10 (slotOf t))
 
 abbrev pub CapacitySays : ℕ → Type 0
 CapacitySays r = r ≡ capacity 10
+
+-- what is stored beside some words, and whether it is
+
+abbrev pub StoredOfSays : List ℕ → Stored → Type 0
+StoredOfSays words r = r ≡ theirs words
+
+abbrev pub SoundSays : List ℕ → Stored → Bool → Type 0
+SoundSays words stored r = r ≡ treeView .isSound (treeOf words stored)

@@ -1,6 +1,6 @@
 -- What the owner demands of the tree map: one value of `Demands`, which has the sentences; what is the tree's own beside it; and that each contract leaves
 -- one outcome.
-use mathlib.Core.Path.{_≡_, sym, ap, _∙_}
+use mathlib.Core.Path.{_≡_, refl, sym, ap, _∙_}
 use mathlib.Core.Bool.{Bool}
 use mathlib.Core.List.{List, [], _∷_}
 use Prim.Native.Nat.{ℕ}
@@ -13,15 +13,19 @@ use Rattle.bits.specs.Digits.{number}
 use Rattle.slots.specs.Sets.{none, all}
 use Rattle.slots.specs.Calls.{takeCall, claimCall, freeCall, setCall}
 use Rattle.slots.specs.Plain.{Asked, callOf}
+use Rattle.slots.specs.View.{same-state, places-decide}
 use Rattle.slots.specs.Demands as Slots
 use Rattle.slots.specs.Demands.{Demands, demanded, Ran}
 use Rattle.views.specs.Painting.{slotIn}
 use Rattle.views.specs.Words.{listed}
-use Rattle.views.specs.Summary.{summary-right}
+use Rattle.views.specs.Marks.{marksOf, marks-right}
+use Rattle.views.specs.Summary.{notZero, NotZero, finds-not-zero}
+use Rattle.views.specs.Full.{allOnes, AllOnes, finds-all-ones}
 use Rattle.tree.specs.declared.Tree.{Tree}
+use Rattle.tree.specs.declared.Stored.{Stored}
 use Rattle.tree.specs.declared.Changed.{Changed}
 use Rattle.tree.specs.Layout.{holding, slotOf, ofSlots, Sound, IsTree, treeView, sound-means}
-use Rattle.tree.specs.Contracts.{Leaves, NewEmptySays, NewFullSays, HoldingSays, WithSummarySays, WordsSays, SummarySays, TakeSays, ClaimSays, FreeSays, SetSays, NextFreeSays, GetSays, EmptySays, UsedSays, CapacitySays}
+use Rattle.tree.specs.Contracts.{Leaves, NewEmptySays, NewFullSays, HoldingSays, WithSummarySays, WithFullSays, WithCountSays, WordsSays, SummarySays, FullSays, CountSays, TakeSays, ClaimSays, FreeSays, SetSays, NextFreeSays, GetSays, EmptySays, UsedSays, CapacitySays, StoredOfSays, SoundSays}
 
 -- ---- the demands. An outcome is a `Changed`; the tree's contracts are those of `Demands`, with 2 ^ 10 slots
 
@@ -72,19 +76,29 @@ full-is-sound r e = rw e (treeView .made-sound all tt)
 
 -- the full summary is 65,535
 pub full-summary : (r : Tree) → NewFullSays r → r .summary ≡ 65535
-unfolding number listed
+unfolding number listed marksOf
 full-summary r e = ap (λ (t : Tree). t .summary) e
 
 -- a tree made of words is sound, and holds their slots
 pub holding-is-sound : (words : List ℕ) (r : Tree) → HoldingSays words r → Sound r
-holding-is-sound words r e = rw e (sound-means (holding words) .1 (summary-right words))
+holding-is-sound words r e = rw e (sound-means (holding words) .1 (marks-right notZero NotZero finds-not-zero words, marks-right allOnes AllOnes finds-all-ones words, refl))
 
 pub holding-holds : (words : List ℕ) (r : Tree) → HoldingSays words r → (i : ℕ) → slotOf r i ≡ slotIn words i
 holding-holds words r e i = ap (λ (t : Tree). slotOf t i) e
 
--- a sound tree is the tree made of its slots: the same slots are the same words and the same summary
+-- a sound tree is the tree made of its slots: the same slots are the same words and the same fields
 pub made-of-its-slots : (t : Tree) → Sound t → IsTree t → ofSlots (slotOf t) ≡ t
 made-of-its-slots t = treeView .same t
+
+-- on a sound tree the words alone decide: two with the same words are the same tree
+pub words-decide : (t u : Tree) → Sound t → IsTree t → Sound u → IsTree u → t .words ≡ u .words → t ≡ u
+words-decide t u st it su iu same = same-state treeView t u st it su iu (λ i l. ap (λ (words : List ℕ). slotIn words i) same)
+
+-- so any two outcomes coincide that a contract allows on them, which leaves one outcome
+pub words-decide-outcomes : {R : Type 0} (Says : Tree → R → Type 0) → ((t : Tree) (r q : R) → Says t r → Says t q → r ≡ q)
+    → (t u : Tree) → Sound t → IsTree t → Sound u → IsTree u → t .words ≡ u .words → (r q : R) → Says t r → Says u q → r ≡ q
+words-decide-outcomes Says one-answer t u st it su iu same =
+    places-decide treeView Says one-answer t u st it su iu (λ i l. ap (λ (words : List ℕ). slotIn words i) same)
 
 -- ---- one answer: any two outcomes that a contract allows coincide
 
@@ -100,11 +114,23 @@ holding-one-answer words r q p o = p ∙ sym o
 pub with-summary-one-answer : (t : Tree) (summary : ℕ) (r q : Tree) → WithSummarySays t summary r → WithSummarySays t summary q → r ≡ q
 with-summary-one-answer t summary r q p o = p ∙ sym o
 
+pub with-full-one-answer : (t : Tree) (full : ℕ) (r q : Tree) → WithFullSays t full r → WithFullSays t full q → r ≡ q
+with-full-one-answer t full r q p o = p ∙ sym o
+
+pub with-count-one-answer : (t : Tree) (count : ℕ) (r q : Tree) → WithCountSays t count r → WithCountSays t count q → r ≡ q
+with-count-one-answer t count r q p o = p ∙ sym o
+
 pub words-one-answer : (t : Tree) (r q : List ℕ) → WordsSays t r → WordsSays t q → r ≡ q
 words-one-answer t r q p o = p ∙ sym o
 
 pub summary-one-answer : (t : Tree) (r q : ℕ) → SummarySays t r → SummarySays t q → r ≡ q
 summary-one-answer t r q p o = p ∙ sym o
+
+pub full-one-answer : (t : Tree) (r q : ℕ) → FullSays t r → FullSays t q → r ≡ q
+full-one-answer t r q p o = p ∙ sym o
+
+pub count-one-answer : (t : Tree) (r q : ℕ) → CountSays t r → CountSays t q → r ≡ q
+count-one-answer t r q p o = p ∙ sym o
 
 pub take-one-answer : (t : Tree) (n a : ℕ) (r q : Changed) → TakeSays t n a r → TakeSays t n a q → r ≡ q
 take-one-answer t n a = treeDemands .of-any t .one-answer (takeCall 10 (slotOf t) n a)
@@ -132,3 +158,9 @@ used-one-answer t r q p o = number-says-injective r q (p ∙ sym o)
 
 pub capacity-one-answer : (r q : ℕ) → CapacitySays r → CapacitySays q → r ≡ q
 capacity-one-answer r q p o = p ∙ sym o
+
+pub stored-of-one-answer : (words : List ℕ) (r q : Stored) → StoredOfSays words r → StoredOfSays words q → r ≡ q
+stored-of-one-answer words r q p o = p ∙ sym o
+
+pub sound-one-answer : (words : List ℕ) (stored : Stored) (r q : Bool) → SoundSays words stored r → SoundSays words stored q → r ≡ q
+sound-one-answer words stored r q p o = p ∙ sym o

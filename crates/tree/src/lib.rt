@@ -1,8 +1,10 @@
-// The tree map: 1,024 slots in sixteen words, under a summary. A call takes the map by value and
-// hands it back with its answer; a refused call hands back the very map. A tree is sound when summary
-// bit i is 1 exactly if word i is not 0. Take, claim, free, set, next_free, get, empty and used refuse
-// any other with 1, before all else. Capacity, and what makes a tree or reads its words and its
-// summary, answer for every tree. Rests on `judges` and `rows`.
+// The tree map: 1,024 slots in sixteen words, and three fields that are stored beside them. A call takes
+// the map by value and hands it back with its answer; a refused call hands back the very map. A tree is
+// sound when all three agree with the words: summary bit i is 1 exactly if word i is not 0, bit i of the
+// mark of full words is 1 exactly if word i is all ones, and the count is the number of used slots. Take,
+// claim, free, set, next_free, get, empty and used refuse any other with 1, before all else. Capacity,
+// and what makes a tree or reads its words and its fields, answer for every tree. Rests on `judges` and
+// `rows`.
 
 use answers::Answer;
 use answers::NextFree;
@@ -10,18 +12,32 @@ use answers::Number;
 use answers::Refusal;
 use answers::Truth;
 use judges::Size;
+use rows::FULL;
 use rows::SHIFTS;
 use rows::TABLE;
-ghost use Rattle.tree.specs.Contracts.{NewEmptySays, NewFullSays, HoldingSays, WithSummarySays, WordsSays, SummarySays, TakeSays, ClaimSays, FreeSays, SetSays, NextFreeSays, GetSays, EmptySays, UsedSays, CapacitySays};
+use rows::USED;
+ghost use Rattle.tree.specs.Contracts.{NewEmptySays, NewFullSays, HoldingSays, WithSummarySays, WithFullSays, WithCountSays, WordsSays, SummarySays, FullSays, CountSays, TakeSays, ClaimSays, FreeSays, SetSays, NextFreeSays, GetSays, EmptySays, UsedSays, CapacitySays, StoredOfSays, SoundSays};
 ghost use Rattle.answers.specs.Answers.{leftBy};
-ghost use Rattle.tree.specs.Inner.{SoundSays, RangeJudged, ChangeJudged, TakeJudged, paintedTree};
-ghost use Rattle.tree.specs.Layout.{treeOf};
+ghost use Rattle.tree.specs.Inner.{RangeJudged, ChangeJudged, TakeJudged, paintedTree, setTree, touchedStored};
+ghost use Rattle.tree.specs.Layout.{storedIn, treeOf};
+ghost use Rattle.views.specs.Count.{movedCount};
 ghost use mathlib.Core.Path.{_≡_};
+ghost use lib.ListN.{length};
+
+// What is stored beside the words of a tree: bit i of the summary is 1 exactly if word i is not 0, bit i
+// of the mark of full words exactly if word i is all ones; and the count of used slots.
+pub struct Stored {
+    pub summary: u16,
+    pub full: u16,
+    pub count: u16,
+}
 
 // Slot s is bit s % 64 of word s / 64; 1 means used.
 pub struct Tree {
     words: [u64; 16],
     summary: u16,
+    full: u16,
+    count: u16,
 }
 
 // What a change comes to, and the map it leaves.
@@ -38,6 +54,8 @@ impl Tree {
         Tree {
             words: [0; 16],
             summary: 0,
+            full: 0,
+            count: 0,
         }
     }
 
@@ -48,27 +66,44 @@ impl Tree {
         Tree {
             words: [u64::MAX; 16],
             summary: u16::MAX,
+            full: u16::MAX,
+            count: 1024,
         }
     }
 
-    // The map that holds the slots of these words, under the summary that is theirs.
+    // The map that holds the slots of these words, with the fields that are theirs.
     pub fn holding(words: [u64; 16]) -> Tree
         ensures { λ r. ⌜ HoldingSays words r ⌝ }
     {
-        let theirs = rows::summary(&words);
-        Tree {
-            words,
-            summary: theirs,
-        }
+        tree_of(words, stored_of(&words))
     }
 
-    // The same words under another summary, sound or not: what comes from outside can be
-    // either. Never refused.
+    // The same map with another summary, sound or not: what comes from outside can be either. Never
+    // refused.
     pub fn with_summary(self, summary: u16) -> Tree
         ensures { λ r. ⌜ WithSummarySays self summary r ⌝ }
     {
-        let words = self.words;
-        Tree { words, summary }
+        let mut tree = self;
+        tree.summary = summary;
+        tree
+    }
+
+    // The same map with another mark of full words, sound or not. Never refused.
+    pub fn with_full(self, full: u16) -> Tree
+        ensures { λ r. ⌜ WithFullSays self full r ⌝ }
+    {
+        let mut tree = self;
+        tree.full = full;
+        tree
+    }
+
+    // The same map with another stored count, sound or not. Never refused.
+    pub fn with_count(self, count: u16) -> Tree
+        ensures { λ r. ⌜ WithCountSays self count r ⌝ }
+    {
+        let mut tree = self;
+        tree.count = count;
+        tree
     }
 
     // The words, of every tree. Never refused.
@@ -85,6 +120,31 @@ impl Tree {
         self.summary
     }
 
+    // The mark of full words, of every tree. Never refused.
+    pub fn full(self) -> u16
+        ensures { λ r. ⌜ FullSays self r ⌝ }
+    {
+        self.full
+    }
+
+    // The stored count, of every tree. Never refused.
+    pub fn count(self) -> u16
+        ensures { λ r. ⌜ CountSays self r ⌝ }
+    {
+        self.count
+    }
+
+    // What is stored beside the words.
+    fn stored(self) -> Stored
+        ensures { λ r. ⌜ r ≡ storedIn self ⌝ }
+    {
+        Stored {
+            summary: self.summary,
+            full: self.full,
+            count: self.count,
+        }
+    }
+
     // Takes n slots at the lowest free start that is a multiple of 2^a, and answers that start.
     // Refused, the lowest number first: 1 where the tree is not sound, 2 where n is 0, 3 where
     // a is 10 or more, 4 where n is above 1,024, 7 where no start fits. A refusal hands back
@@ -93,19 +153,19 @@ impl Tree {
         ensures { λ r. ⌜ TakeSays self n a r ⌝ }
     {
         let mut words = self.words;
-        let mut summary = self.summary;
-        let found = judged_take(&words, summary, n, a);
+        let stored = self.stored();
+        let found = judged_take(&words, stored, n, a);
         match found {
             NextFree::Refused(why) => Changed {
                 answer: Answer::Refused(why),
-                map: Tree { words, summary },
+                map: self,
             },
             NextFree::At(start) => {
                 let given = Answer::At(start);
-                summary = carried_out(&mut words, summary, given, start, n, true, SHIFTS);
+                let left = carried_out(&mut words, stored, given, start, n, true, SHIFTS);
                 Changed {
                     answer: given,
-                    map: Tree { words, summary },
+                    map: tree_of(words, left),
                 }
             }
         }
@@ -118,11 +178,12 @@ impl Tree {
         ensures { λ r. ⌜ ClaimSays self start n r ⌝ }
     {
         let mut words = self.words;
-        let judged = judged_change(&words, self.summary, start, n, true);
-        let summary = carried_out(&mut words, self.summary, judged, start, n, true, TABLE);
+        let stored = self.stored();
+        let judged = judged_change(&words, stored, start, n, true);
+        let left = carried_out(&mut words, stored, judged, start, n, true, TABLE);
         Changed {
             answer: judged,
-            map: Tree { words, summary },
+            map: tree_of(words, left),
         }
     }
 
@@ -133,11 +194,12 @@ impl Tree {
         ensures { λ r. ⌜ FreeSays self start n r ⌝ }
     {
         let mut words = self.words;
-        let judged = judged_change(&words, self.summary, start, n, false);
-        let summary = carried_out(&mut words, self.summary, judged, start, n, false, SHIFTS);
+        let stored = self.stored();
+        let judged = judged_change(&words, stored, start, n, false);
+        let left = carried_out(&mut words, stored, judged, start, n, false, SHIFTS);
         Changed {
             answer: judged,
-            map: Tree { words, summary },
+            map: tree_of(words, left),
         }
     }
 
@@ -148,11 +210,12 @@ impl Tree {
         ensures { λ r. ⌜ SetSays self start n used r ⌝ }
     {
         let mut words = self.words;
-        let judged = judged_range(&words, self.summary, start, n);
-        let summary = carried_out(&mut words, self.summary, judged, start, n, used, TABLE);
+        let stored = self.stored();
+        let judged = judged_range(&words, stored, start, n);
+        let left = set_out(&mut words, stored, judged, start, n, used);
         Changed {
             answer: judged,
-            map: Tree { words, summary },
+            map: tree_of(words, left),
         }
     }
 
@@ -161,10 +224,12 @@ impl Tree {
     pub fn next_free(self, start: usize) -> NextFree
         ensures { λ r. ⌜ NextFreeSays self start r ⌝ }
     {
-        if !sound(&self.words, self.summary) {
+        let stored = self.stored();
+        if !sound(&self.words, stored) {
             return NextFree::Refused(Refusal::Unsound);
         }
-        judges::next_free(&self.words, Size::Tree, start)
+        let fulls = [self.full];
+        judges::next_free(&self.words, &fulls, Size::Tree, start)
     }
 
     // Whether the slot is used. Refused: 1 where the tree is not sound, 4 where the slot is
@@ -172,7 +237,8 @@ impl Tree {
     pub fn get(self, slot: usize) -> Truth
         ensures { λ r. ⌜ GetSays self slot r ⌝ }
     {
-        if !sound(&self.words, self.summary) {
+        let stored = self.stored();
+        if !sound(&self.words, stored) {
             return Truth::Refused(Refusal::Unsound);
         }
         judges::get(&self.words, Size::Tree, slot)
@@ -183,20 +249,22 @@ impl Tree {
     pub fn empty(self) -> Truth
         ensures { λ r. ⌜ EmptySays self r ⌝ }
     {
-        if !sound(&self.words, self.summary) {
+        let stored = self.stored();
+        if !sound(&self.words, stored) {
             return Truth::Refused(Refusal::Unsound);
         }
         Truth::Is(self.summary == 0)
     }
 
-    // How many slots are used. Refused: 1 where the tree is not sound.
+    // How many slots are used: of a sound map the stored count. Refused: 1 where the tree is not sound.
     pub fn used(self) -> Number
         ensures { λ r. ⌜ UsedSays self r ⌝ }
     {
-        if !sound(&self.words, self.summary) {
+        let stored = self.stored();
+        if !sound(&self.words, stored) {
             return Number::Refused(Refusal::Unsound);
         }
-        Number::Is(rows::count(&self.words) as u64)
+        Number::Is(self.count as u64)
     }
 
     // How many slots there are, on every tree. Never refused.
@@ -207,61 +275,141 @@ impl Tree {
     }
 }
 
-// Whether the summary is that of the words.
-fn sound(words: &[u64], summary: u16) -> bool
-    ensures { λ r. ⌜ SoundSays (now (words .entry)) summary r ⌝ }
+// ---- what is stored
+
+// The tree with these words, and this beside them.
+fn tree_of(words: [u64; 16], stored: Stored) -> Tree
+    ensures { λ r. ⌜ r ≡ treeOf words stored ⌝ }
 {
-    rows::summary(words) == summary
+    Tree {
+        words,
+        summary: stored.summary,
+        full: stored.full,
+        count: stored.count,
+    }
+}
+
+// What a tree of these words has stored.
+pub fn stored_of(words: &[u64]) -> Stored
+    ensures { λ r. ⌜ StoredOfSays (now (words .entry)) r ⌝ }
+{
+    Stored {
+        summary: rows::marks(words, USED),
+        full: rows::marks(words, FULL),
+        count: rows::count(words),
+    }
+}
+
+// Whether that is what is stored: all three fields agree with the words.
+pub fn sound(words: &[u64], stored: Stored) -> bool
+    ensures { λ r. ⌜ SoundSays (now (words .entry)) stored r ⌝ }
+{
+    if rows::marks(words, USED) != stored.summary {
+        return false;
+    }
+    if rows::marks(words, FULL) != stored.full {
+        return false;
+    }
+    rows::count(words) == stored.count
 }
 
 // ---- check 1, in front of the judges
 
 // Done where the map is sound and the n slots from `start` on are a range of it, and else the refusal.
-fn judged_range(words: &[u64], summary: u16, start: usize, n: usize) -> Answer
-    ensures { λ r. ⌜ RangeJudged (now (words .entry)) summary start n r ⌝ }
+fn judged_range(words: &[u64], stored: Stored, start: usize, n: usize) -> Answer
+    ensures { λ r. ⌜ RangeJudged (now (words .entry)) stored start n r ⌝ }
 {
-    if !sound(words, summary) {
+    if !sound(words, stored) {
         return Answer::Refused(Refusal::Unsound);
     }
     judges::range(Size::Tree, start, n)
 }
 
 // Done where claim accepts, or free where `used` is false, and else the refusal.
-fn judged_change(words: &[u64], summary: u16, start: usize, n: usize, used: bool) -> Answer
-    ensures { λ r. ⌜ ChangeJudged (now (words .entry)) summary start n used r ⌝ }
+fn judged_change(words: &[u64], stored: Stored, start: usize, n: usize, used: bool) -> Answer
+    ensures { λ r. ⌜ ChangeJudged (now (words .entry)) stored start n used r ⌝ }
 {
-    if !sound(words, summary) {
+    if !sound(words, stored) {
         return Answer::Refused(Refusal::Unsound);
     }
     judges::change(words, Size::Tree, start, n, used)
 }
 
-// The start that take grants, or its refusal.
-fn judged_take(words: &[u64], summary: u16, n: usize, a: usize) -> NextFree
-    ensures { λ r. ⌜ TakeJudged (now (words .entry)) summary n a r ⌝ }
+// The start that take grants, or its refusal. The search goes by the mark of full words.
+fn judged_take(words: &[u64], stored: Stored, n: usize, a: usize) -> NextFree
+    requires { ⌜ length (now words) ≡ 16 ⌝ }
+    ensures { λ r. ⌜ TakeJudged (now (words .entry)) stored n a r ⌝ }
 {
-    if !sound(words, summary) {
+    if !sound(words, stored) {
         return NextFree::Refused(Refusal::Unsound);
     }
-    judges::take(words, Size::Tree, n, a)
+    let fulls = [stored.full];
+    judges::take(words, &fulls, Size::Tree, n, a)
 }
 
-// Carries a judged call out in the words: on a refusal nothing, and else the n slots from `start` on
-// get the value `used`. Answers the summary, brought up to date for every word that they reach.
+// ---- a judged call, carried out in the words
+
+// On a refusal nothing, and else the n slots from `start` on, which had the other value, get the value
+// `used`. Answers what is stored then: the bits of every word that they reach are brought up to date,
+// and the count moves by n.
 fn carried_out(
     words: &mut [u64; 16],
-    summary: u16,
+    stored: Stored,
     judged: Answer,
     start: usize,
     n: usize,
     used: bool,
     table: bool,
-) -> u16
-    ensures { λ r. ⌜ treeOf (now (words .exit)) r ≡ leftBy judged (treeOf (now (words .entry)) summary) (paintedTree (now (words .entry)) summary start n used) ⌝ }
+) -> Stored
+    ensures { λ r. ⌜ treeOf (now (words .exit)) r ≡ leftBy judged (treeOf (now (words .entry)) stored) (paintedTree (now (words .entry)) stored start n used) ⌝ }
 {
     if let Answer::Refused(_) = judged {
-        return summary;
+        return stored;
     }
     rows::paint(words, start, n, used, table);
-    rows::touched(words, summary, start, n)
+    let count = moved(stored.count, n, used);
+    touched(words, stored, start, n, count)
+}
+
+// The same where the slots may have held anything: they are counted anew.
+fn set_out(
+    words: &mut [u64; 16],
+    stored: Stored,
+    judged: Answer,
+    start: usize,
+    n: usize,
+    used: bool,
+) -> Stored
+    ensures { λ r. ⌜ treeOf (now (words .exit)) r ≡ leftBy judged (treeOf (now (words .entry)) stored) (setTree (now (words .entry)) stored start n used) ⌝ }
+{
+    if let Answer::Refused(_) = judged {
+        return stored;
+    }
+    rows::paint(words, start, n, used, TABLE);
+    let counted = rows::count(words);
+    touched(words, stored, start, n, counted)
+}
+
+// What is stored with the bits of every word that the n slots from `start` on reach brought up to date,
+// and this count.
+fn touched(words: &[u64], stored: Stored, start: usize, n: usize, count: u16) -> Stored
+    ensures { λ r. ⌜ r ≡ touchedStored (now (words .entry)) stored start n count ⌝ }
+{
+    Stored {
+        summary: rows::touched(words, stored.summary, start, n, USED),
+        full: rows::touched(words, stored.full, start, n, FULL),
+        count,
+    }
+}
+
+// The count with n more, or n fewer, in sixteen bits.
+fn moved(count: u16, n: usize, up: bool) -> u16
+    ensures { λ r. ⌜ r ≡ movedCount count n up ⌝ }
+{
+    let before = count as usize;
+    let by = n % 65536;
+    if up {
+        return ((before + by) % 65536) as u16;
+    }
+    ((before + (65536 - by)) % 65536) as u16
 }

@@ -120,6 +120,20 @@ module _ {K : Kind} (L : View K) (F : Kept L) where
     same = same-beside;
   }
 
+-- a field that agrees with the map alone, beside a map that keeps another already
+abbrev pub also : {K : Kind} (L : View K) (F G : Kept L) → Kept (keeping L F)
+also L F G = record {
+  Field = G .Field;
+  IsField = G .IsField;
+  Agrees = λ m f. G .Agrees (m .map) f;
+  agrees = λ m f. G .agrees (m .map) f;
+  finds-agrees = λ m f. G .finds-agrees (m .map) f;
+  made = λ m. G .made (m .map);
+  made-agrees = λ m held. G .made-agrees (m .map) (held .is-map);
+  made-field = λ m. G .made-field (m .map);
+  only = λ m f sound held fits h. G .only (m .map) f (sound .map-sound) (held .is-map) fits h;
+}
+
 -- ---- bits that say something of each part of a map, in one number
 
 abbrev alike : Bool → Bool → Bool

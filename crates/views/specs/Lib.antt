@@ -1,6 +1,10 @@
 pub mod Keeping
 pub mod Painting
 pub mod Words
+pub mod Marks
 pub mod Summary
+pub mod Full
+pub mod Count
 pub mod Parts
+pub mod Trees
 pub mod Summaries

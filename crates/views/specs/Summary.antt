@@ -1,4 +1,4 @@
--- The summary kept beside words in a row: bit i is 1 exactly if word i is not 0. Rests on `Words` and `Keeping`.
+-- The summary kept beside words in a row: bit i is 1 exactly if word i is not 0. Rests on `Marks`.
 use mathlib.Core.Path.{_≡_, sym, ap, _∙_}
 use mathlib.Core.Logic.{_↔_}
 use mathlib.Core.Bool.{Bool, true, false, not, _&&_, true≢false}
@@ -12,58 +12,40 @@ use borrow.Author.Tests.{ltb-true, ltb-false, eq-eqb, eqb-true, not-false}
 use Rattle.bits.specs.Range.{either, same-test}
 use Rattle.bits.specs.Digits.{digit, number, digit-number, number-lt, number-agree, zero-digit, equal-digits}
 use Rattle.slots.specs.Sets.{Slots, Named, AllFree, SomeUsed, allFree, finds-all-free, finds-some-used}
-use Rattle.views.specs.Keeping.{Kept, BitsAgree, made-bits, only-bits, bitsKept}
-use Rattle.views.specs.Painting.{slotsIn, slotIn, slot-in-word, endIn, reaches, paintedWords, painted-long, kept-word}
+use Rattle.views.specs.Keeping.{Kept}
+use Rattle.views.specs.Painting.{slotsIn, slotIn, slot-in-word}
 use Rattle.views.specs.Words.{AreWords, wordsOf, made-words, holds-words, wordsView, word-held}
-
--- a row may have sixteen words
-pub sixteen-fit : 2 ^ 4 ≤ 256
-sixteen-fit = omega arith
+use Rattle.views.specs.Marks.{sixteen-fit, marksOf, marksKept}
 
 -- ---- the summary of a part of the words
 
--- word i is not 0; past the last it is
-abbrev pub usedWord : List ℕ → ℕ → Bool
-usedWord words i = not (eqb (getD words i 0) 0)
+-- a word is not 0
+abbrev pub notZero : ℕ → Bool
+notZero word = not (eqb word 0)
 
 -- bit i is 1 exactly if word i is not 0
-unfoldable pub summaryOf : List ℕ → ℕ
-summaryOf words = number (usedWord words) 16
-
--- how many words a part has, sixteen at most
-unfoldable pub partWords : List ℕ → ℕ
-partWords words = min (length words) 16
-
--- the summary with the bit of each word that the n slots from s on reach brought up to date, set or cleared
-unfoldable pub touchedSummary : List ℕ → ℕ → ℕ → ℕ → ℕ
-touchedSummary words summary s n =
-    number (λ i. elim (reaches s (endIn (partWords words * 64) s n) i) [ true ↦ usedWord words i | false ↦ digit summary i ]) 16
+abbrev pub summaryOf : List ℕ → ℕ
+summaryOf words = marksOf notZero words
 
 -- ---- what a bit says
 
-abbrev pub UsedWord : List ℕ → ℕ → Type 0
-UsedWord words i = getD words i 0 ≡ 0 → ⊥
+abbrev pub NotZero : ℕ → Type 0
+NotZero word = word ≡ 0 → ⊥
 
-pub finds-word-used : (words : List ℕ) (i : ℕ) → T (usedWord words i) ↔ UsedWord words i
-finds-word-used words i = (
-  λ t e. T-not (eqb (getD words i 0) 0) t (rw (eq-eqb (getD words i 0) 0 e) tt),
-  λ h. not-T (eqb (getD words i 0) 0) (λ t. h (eqb→eq (getD words i 0) 0 t)),
+pub finds-not-zero : (word : ℕ) → T (notZero word) ↔ NotZero word
+finds-not-zero word = (
+  λ t e. T-not (eqb word 0) t (rw (eq-eqb word 0 e) tt),
+  λ h. not-T (eqb word 0) (λ t. h (eqb→eq word 0 t)),
 )
 
-abbrev pub SummaryAgrees : List ℕ → ℕ → Type 0
-SummaryAgrees = BitsAgree 16 UsedWord usedWord finds-word-used
+abbrev pub usedWord : List ℕ → ℕ → Bool
+usedWord words i = notZero (getD words i 0)
+
+abbrev pub UsedWord : List ℕ → ℕ → Type 0
+UsedWord words i = NotZero (getD words i 0)
 
 abbrev pub summaryKept : (j : ℕ) (most : 2 ^ j ≤ 256) → Kept (wordsView j most)
-summaryKept j most = bitsKept (wordsView j most) 16 UsedWord usedWord finds-word-used
-
--- the summary of the words agrees with them, and no other does
-pub summary-right : (words : List ℕ) → SummaryAgrees words (summaryOf words)
-unfolding summaryOf
-summary-right words = made-bits 16 UsedWord usedWord finds-word-used words
-
-pub summary-agrees : (words : List ℕ) (f : ℕ) → f < 2 ^ 16 → SummaryAgrees words f ↔ (f ≡ summaryOf words)
-unfolding summaryOf
-summary-agrees words f fits = (λ h. sym (only-bits 16 UsedWord usedWord finds-word-used words f fits h), λ e. rw e (summary-right words))
+summaryKept = marksKept notZero NotZero finds-not-zero
 
 -- ---- which slots it tells of
 
@@ -103,7 +85,7 @@ part-used j most S i l =
 
 -- sixteen words: the summary is 0 exactly if no slot is used
 pub none-used : (words : List ℕ) → AreWords 4 words → (summaryOf words ≡ 0) ↔ AllFree (slotIn words) 0 1024
-unfolding summaryOf
+unfolding marksOf
 none-used words held = (
   λ e s named.
       let l : s / 64 < 16 = omega (arith, named) in
@@ -128,45 +110,3 @@ summary-tells words held =
     same-test (eqb (summaryOf words) 0) (allFree (slotIn words) 0 1024)
     (λ e. found .1 (none .0 (eqb→eq (summaryOf words) 0 e)))
     (λ free. rw (none .1 (found .0 free)) tt)
-
--- ---- it stays right
-
--- among more slots a run reaches no more of the words that there are among fewer
-reaches-alike : (slots more s n i : ℕ) → i * 64 < slots → i * 64 < more → reaches s (endIn slots s n) i ≡ reaches s (endIn more s n) i
-unfolding endIn
-reaches-alike slots more s n i l m =
-    ap (λ (b : Bool). leb (s / 64) i && b)
-    (same-test (ltb (i * 64) (endIn slots s n)) (ltb (i * 64) (endIn more s n))
-    (λ t. lt→ltb (i * 64) (endIn more s n) (omega (arith, ltb→lt (i * 64) (endIn slots s n) t)))
-    (λ t. lt→ltb (i * 64) (endIn slots s n) (omega (arith, ltb→lt (i * 64) (endIn more s n) t))))
-
-module _ (words : List ℕ) (s n : ℕ) (v : Bool) where
-  as-many : partWords (paintedWords words s n v) ≡ partWords words
-  unfolding partWords
-  as-many = ap (λ (l : ℕ). min l 16) (painted-long words s n v)
-
-  -- a word of the part that the run does not reach is as it was, and past the words there is nothing
-  kept-in-part : (i : ℕ) → i < 16 → reaches s (endIn (partWords words * 64) s n) i ≡ false → getD (paintedWords words s n v) i 0 ≡ getD words i 0
-  unfolding paintedWords partWords slotsIn
-  kept-in-part i l t =
-      either (ltb i (length words))
-      (λ h. let inside = ltb-true i (length words) h in
-      kept-word words s (endIn (slotsIn words) s n) v 256 i (reaches-alike (slotsIn words) (partWords words * 64) s n i (omega arith) (omega arith) ∙ t))
-      (λ h. let past = ltb-false i (length words) h in
-      List·getD-eq-default (paintedWords words s n v) 0 {n = i} (rw (painted-long words s n v) past) ∙ sym (List·getD-eq-default words 0 {n = i} past))
-
--- once a run is painted, bringing the bits of the touched words up to date makes the summary right again
-pub touched-right : (words : List ℕ) (summary s n : ℕ) (v : Bool) → summary ≡ summaryOf words
-    → touchedSummary (paintedWords words s n v) summary s n ≡ summaryOf (paintedWords words s n v)
-unfolding touchedSummary summaryOf
-touched-right words summary s n v e = number-agree _ (usedWord (paintedWords words s n v)) 16 (λ i l.
-    either (reached i) (λ t. ap (at-word i) t)
-    (λ t. ap (at-word i) t ∙ ap (λ (m : ℕ). digit m i) e ∙ digit-number (usedWord words) 16 i l
-    ∙ ap (λ (word : ℕ). not (eqb word 0))
-    (sym (kept-in-part words s n v i l (ap (λ (w : ℕ). reaches s (endIn (w * 64) s n) i) (sym (as-many words s n v)) ∙ t)))))
-  where
-    reached : ℕ → Bool
-    reached i = reaches s (endIn (partWords (paintedWords words s n v) * 64) s n) i
-
-    at-word : ℕ → Bool → Bool
-    at-word i b = elim b [ true ↦ usedWord (paintedWords words s n v) i | false ↦ digit summary i ]

@@ -14,6 +14,7 @@ use Rattle.slots.specs.Calls.{Call, says}
 use Rattle.slots.specs.View.{answered, sound-answers}
 use Rattle.slots.proofs.Outcomes.{carried-out}
 use Rattle.views.specs.Painting.{slotIn}
+use Rattle.views.specs.Full.{filled, filled-unmarked, seenFrom, seen-right}
 use Rattle.views.specs.Words.{one-word, painted-words, word-held}
 use Rattle.views.specs.Summary.{word-free}
 use Rattle.word.specs.declared.Word.{Word}
@@ -34,6 +35,13 @@ module _ (w : Word) (held : IsWord w) where
   -- what is said of its slots is what the map answers
   pub answers : {A : Type 0} (call : Slots → Call Slots A) → says (call (slotIn (w .bits ∷ []))) ≡ answered wordView w (call (slotOf w))
   answers call = ap (λ (S : Slots). says (call S)) lent ∙ sym (sound-answers wordView w (call (slotOf w)) tt)
+
+  -- also where a search is lent a mark that marks nothing
+  pub searched : {A : Type 0} (call : Slots → Call Slots A) → says (call (slotIn (filled (w .bits ∷ []) (0 ∷ [])))) ≡ answered wordView w (call (slotOf w))
+  searched call = ap (λ (words : List ℕ). says (call (slotIn words))) (filled-unmarked (w .bits ∷ [])) ∙ answers call
+
+  pub searched-from : {A : Type 0} (call : Slots → Call Slots A) (from : ℕ) → says (call (seenFrom (w .bits ∷ []) (0 ∷ []) from)) ≡ answered wordView w (call (slotOf w))
+  searched-from call from = ap (λ (S : Slots). says (call S)) (seen-right (w .bits ∷ []) (0 ∷ []) (filled-unmarked (w .bits ∷ [])) from) ∙ answers call
 
   -- a run painted in it is the word of the painted set
   painted-word : (s n : ℕ) (v : Bool) → paintedWord (w .bits) s n v ≡ ofSlots (painted (slotOf w) s n v)

@@ -58,7 +58,8 @@ impl Word {
         ensures { λ r. ⌜ TakeSays self n a r ⌝ }
     {
         let words = [self.bits];
-        let found = judges::take(&words, Size::Word, n, a);
+        let unmarked = [0];
+        let found = judges::take(&words, &unmarked, Size::Word, n, a);
         match found {
             NextFree::Refused(why) => Changed {
                 answer: Answer::Refused(why),
@@ -109,7 +110,8 @@ impl Word {
         ensures { λ r. ⌜ NextFreeSays self start r ⌝ }
     {
         let words = [self.bits];
-        judges::next_free(&words, Size::Word, start)
+        let unmarked = [0];
+        judges::next_free(&words, &unmarked, Size::Word, start)
     }
 
     // Whether the slot is used. Refused: 4 where the slot is 64 or more.

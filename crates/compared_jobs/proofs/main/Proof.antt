@@ -6,7 +6,7 @@ use Rattle.compared_jobs.proofs.main.Statement.{statement}
 use Rattle.compared_jobs.proofs.main.Tie as tie
 
 abbrev Inv-loop : tie.InvT-loop
-Inv-loop request₀ turns₀ request turns = length request ≡ 288
+Inv-loop request₀ turns₀ request turns = length request ≡ 304
 
 abbrev μ-loop : tie.MeasureT-loop
 μ-loop request₀ turns₀ request turns = turns

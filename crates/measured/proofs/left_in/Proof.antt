@@ -18,6 +18,9 @@ slice-aggregate-count c = search needs
 count-requires : tie.Need-count-requires
 count-requires c κs = search needs
 
+cast-result : tie.Need-cast-result
+cast-result c = search needs
+
 returns : tie.Need-returns
 returns c =
     let left = c .before .before .words .result in
@@ -25,4 +28,4 @@ returns c =
     (λ i. ((c .count .ensures ∙ ap (count (slotIn left) 0) all) i, left)) ∙ ap (λ (words : List ℕ). (count (slotIn words) 0 1024, words)) (c .before .before .words .ensures)
 
 pub left-in-spec : {M : Type 1} → statement M
-left-in-spec = tie.close (tie.spec words-requires slice-aggregate-count count-requires returns)
+left-in-spec = tie.close (tie.spec words-requires slice-aggregate-count count-requires cast-result returns)

@@ -18,6 +18,9 @@ slice-aggregate-count c = search needs
 count-requires : tie.Need-count-requires
 count-requires c κs = search needs
 
+cast-result : tie.Need-cast-result
+cast-result c = search needs
+
 returns : tie.Need-returns
 returns c =
     let left = c .before .before .bits .result ∷ [] in
@@ -25,4 +28,4 @@ returns c =
     (λ i. ((c .count .ensures ∙ ap (count (slotIn left) 0) all) i, left)) ∙ ap (λ (bits : ℕ). (count (slotIn (bits ∷ [])) 0 64, bits ∷ [])) (c .before .before .bits .ensures)
 
 pub left-in-word-spec : {M : Type 1} → statement M
-left-in-word-spec = tie.close (tie.spec bits-requires slice-aggregate-count count-requires returns)
+left-in-word-spec = tie.close (tie.spec bits-requires slice-aggregate-count count-requires cast-result returns)

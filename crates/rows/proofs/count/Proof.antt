@@ -60,6 +60,13 @@ loop-again c =
     let i = at-head .loop .i in
     (word-there words i (there test) .2, ap₂ (λ (m n : ℕ). m + n) (at-head .loop .inv .1) (c .count .ensures) ∙ count-next words i (there test))
 
+cast-result : tie.Need-cast-result Inv-loop μ-loop
+cast-result c =
+    let at-head = c .before in
+    let words = at-head .before .before .before .args .words .now in
+    let i = at-head .loop .i in
+    record { fits = omega (arith, at-head .loop .inv .0, at-head .loop .inv .1, slots-most words, count-most (slotIn words) 0 (i * 64)) }
+
 returns : tie.Need-returns Inv-loop μ-loop
 returns c =
     let at-head = c .before in
@@ -70,4 +77,4 @@ returns c =
 pub count-spec : {M : Type 1} → statement M
 count-spec =
     tie.close
-    (tie.spec Inv-loop μ-loop slots-requires loop-holds mul-loop mul-count shared-slice-read-count count-requires add-total add-i loop-less loop-again returns)
+    (tie.spec Inv-loop μ-loop slots-requires loop-holds mul-loop mul-count shared-slice-read-count count-requires add-total add-i loop-less loop-again cast-result returns)

@@ -4,17 +4,18 @@ use Prim.Native.Nat.{ℕ, _*_, _-_, _/_, _^_, _≤_, _<_}
 use native.Mathlib.Omega.{arith}
 use borrow.Author.Needs.{needs}
 use Rattle.views.specs.Painting.{endIn}
-use Rattle.rows.specs.Rows.{withBit}
-use Rattle.views.specs.Summary.{usedWord, partWords, touchedSummary}
+use Rattle.rows.specs.Rows.{markTest, withBit}
+use Rattle.views.specs.Marks.{passesAt, partWords, touchedMarks}
 use Rattle.rows.proofs.Reasons.{before-end, part-there, part-most, touchedFirst, touch-none, touch-on, touch-all}
 use Rattle.rows.proofs.touched.Statement.{statement}
 use Rattle.rows.proofs.touched.Tie as tie
 
 abbrev Inv-loop : tie.InvT-loop
-Inv-loop part summary start n end updated₀ i₀ updated i = (start / 64 ≤ i) × (i * 64 < 2 ^ 64) × (updated ≡ touchedFirst part summary start (endIn (partWords part * 64) start n) i)
+Inv-loop part marks start n full end updated₀ i₀ updated i =
+    (start / 64 ≤ i) × (i * 64 < 2 ^ 64) × (updated ≡ touchedFirst (markTest full) part marks start (endIn (partWords part * 64) start n) i)
 
 abbrev μ-loop : tie.MeasureT-loop
-μ-loop part summary start n end updated₀ i₀ updated i = end - i * 64
+μ-loop part marks start n full end updated₀ i₀ updated i = end - i * 64
 
 words-of-requires : tie.Need-words-of-requires Inv-loop μ-loop
 words-of-requires c κs = search needs
@@ -29,7 +30,7 @@ loop-holds : tie.Need-loop-holds Inv-loop μ-loop
 loop-holds c =
     let entry = c .before .before .before in
     let asked = entry .args in
-    (omega arith, omega (arith, entry .fits .start .fits), touch-none (asked .part .now) (asked .summary) (asked .start) (endIn (partWords (asked .part .now) * 64) (asked .start) (asked .n)) (entry .fits .summary .fits) (asked .start / 64) (omega arith))
+    (omega arith, omega (arith, entry .fits .start .fits), touch-none (markTest (asked .full)) (asked .part .now) (asked .marks) (asked .start) (endIn (partWords (asked .part .now) * 64) (asked .start) (asked .n)) (entry .fits .marks .fits) (asked .start / 64) (omega arith))
 
 mul-loop : tie.Need-mul-loop Inv-loop μ-loop
 mul-loop c = omega (arith, c .loop .inv .1)
@@ -68,8 +69,8 @@ loop-again c =
     let inv = at-head .loop .inv in (
       omega (arith, inv .0),
       omega (arith, part-there _ _ (there test) .1),
-      c .with-bit .ensures ∙ ap (λ (m : ℕ). withBit m (usedWord part i) i) (inv .2)
-          ∙ touch-on part (asked .summary) (asked .start) (endIn (partWords part * 64) (asked .start) (asked .n)) i (inv .0) (ends-later test),
+      c .with-bit .ensures ∙ ap (λ (m : ℕ). withBit m (passesAt (markTest (asked .full)) part i) i) (inv .2)
+          ∙ touch-on (markTest (asked .full)) part (asked .marks) (asked .start) (endIn (partWords part * 64) (asked .start) (asked .n)) i (inv .0) (ends-later test),
     )
   where
     ends-later : (c : tie.In-loop Inv-loop μ-loop)
@@ -77,7 +78,7 @@ loop-again c =
     ends-later c = rw (sym (c .before .before .before .words-of .ensures), sym (c .before .before .end-of .ensures)) (c .loop-test .taken)
 
 returns : tie.Need-returns Inv-loop μ-loop
-unfolding touchedSummary
+unfolding touchedMarks
 returns c =
     let at-head = c .before in
     let ending = at-head .before in
@@ -86,7 +87,7 @@ returns c =
     let i = at-head .loop .i in
     let e = endIn (partWords part * 64) (asked .start) (asked .n) in
     let past : e ≤ i * 64 = rw (sym (ending .before .words-of .ensures), sym (ending .end-of .ensures)) (c .loop-test .left) in
-    at-head .loop .inv .2 ∙ touch-all part (asked .summary) (asked .start) e i past
+    at-head .loop .inv .2 ∙ touch-all (markTest (asked .full)) part (asked .marks) (asked .start) e i past
 
 pub touched-spec : {M : Type 1} → statement M
 touched-spec =

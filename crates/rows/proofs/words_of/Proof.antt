@@ -1,6 +1,6 @@
 -- `rows::words_of` meets its contract: as many words as there are, or sixteen. Assumes nothing.
 use native.Mathlib.Omega.{arith}
-use Rattle.views.specs.Summary.{partWords}
+use Rattle.views.specs.Marks.{partWords}
 use Rattle.rows.proofs.words_of.Statement.{statement}
 use Rattle.rows.proofs.words_of.Tie as tie
 

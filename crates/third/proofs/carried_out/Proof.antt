@@ -1,4 +1,4 @@
--- `third::carried_out` meets its contract: on a refusal the very words and summaries, and else the painted ones. Assumes nothing.
+-- `third::carried_out` meets its contract: on a refusal the very words and fields, and else the painted ones. Assumes nothing.
 use mathlib.Core.Path.{sym, ap, _∙_}
 use lib.ListN.{length}
 use borrow.Author.Needs.{needs}
@@ -17,7 +17,7 @@ enum-told c = search needs
 returns : tie.Need-returns
 returns c =
     let asked = c .before .before .args in
-    let t = thirdOf (asked .words .now) (asked .summaries .now) (asked .summary) in
+    let t = thirdOf (asked .words .now) (asked .summaries .now) (asked .fulls .now) (asked .counts .now) (asked .summary) in
     sym (ap (λ (judge : Answer). leftBy judge t (paintedThird t (asked .start) (asked .n) (asked .used))) (c .enum-told .given .1))
 
 paint-requires : tie.Need-paint-requires
@@ -25,9 +25,10 @@ paint-requires c κs = search needs
 
 renew-requires : tie.Need-renew-requires
 renew-requires c κs =
-    let painting = c .before .before .before in
+    let painting = c .before .before .before .before .before in
     let entry = painting .before .before .before in
-    (ap length (painting .paint .ensures) ∙ painted-long (entry .args .words .now) (entry .args .start) (entry .args .n) (entry .args .used) ∙ entry .pre .0, entry .pre .1)
+    let asked = entry .args in
+    (ap length (painting .paint .ensures) ∙ painted-long (asked .words .now) (asked .start) (asked .n) (asked .used) ∙ entry .pre .0, entry .pre .1, entry .pre .2, entry .pre .3)
 
 top-requires : tie.Need-top-requires
 top-requires c κs = search needs
@@ -35,11 +36,11 @@ top-requires c κs = search needs
 returns-2 : tie.Need-returns-2
 returns-2 c =
     let renewing = c .before .before in
-    let painting = renewing .before .before .before .before in
+    let painting = renewing .before .before .before .before .before .before in
     let kept = painting .before .before in
     let asked = kept .before .args in
-    let t = thirdOf (asked .words .now) (asked .summaries .now) (asked .summary) in
-    left-as-judged (asked .judged) (kept .match .keys2) t (asked .start) (asked .n) (asked .used) _ _ _ (painting .paint .ensures) (renewing .renew .ensures) (c .top .ensures)
+    let t = thirdOf (asked .words .now) (asked .summaries .now) (asked .fulls .now) (asked .counts .now) (asked .summary) in
+    left-as-judged (asked .judged) (kept .match .keys2) t (asked .start) (asked .n) (asked .used) _ _ _ _ _ (painting .paint .ensures) (renewing .renew .ensures) (c .top .ensures)
 
 pub carried-out-spec : {M : Type 1} → statement M
 carried-out-spec = tie.close (tie.spec enum-told returns paint-requires renew-requires top-requires returns-2)

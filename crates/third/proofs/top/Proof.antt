@@ -4,7 +4,8 @@ use Prim.Native.Nat.{_-_, _≤_}
 use native.Mathlib.Omega.{arith}
 use lib.Bits.{bitOr}
 use borrow.Author.Needs.{needs}
-use Rattle.views.specs.Summary.{usedWord, summaryOf}
+use Rattle.views.specs.Marks.{marksOf}
+use Rattle.views.specs.Summary.{usedWord}
 use Rattle.rows.proofs.Reasons.{firstPlaces, no-places, next-place, all-places}
 use Rattle.third.proofs.top.Statement.{statement}
 use Rattle.third.proofs.top.Tie as tie
@@ -41,7 +42,7 @@ loop-again c =
     (omega arith, ap₂ bitOr (at-head .loop .inv .1) (c .used-bit .ensures) ∙ next-place (usedWord summaries) 16 (at-head .loop .i) (test .loop-test .taken))
 
 returns : tie.Need-returns Inv-loop μ-loop
-unfolding summaryOf
+unfolding marksOf
 returns c =
     let at-head = c .before in
     let summaries = at-head .before .args .summaries .now in

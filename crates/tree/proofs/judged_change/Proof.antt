@@ -13,7 +13,7 @@ returns : tie.Need-returns
 returns c =
     let tested = c .before in
     let asked = tested .before .before .args in
-    sym (shown-unsound treeView (treeOf (asked .words .now) (asked .summary)) _ _ (tested .sound .ensures) (c .if1 .taken))
+    sym (shown-unsound treeView (treeOf (asked .words .now) (asked .stored)) _ _ (tested .sound .ensures) (c .if1 .taken))
 
 change-requires : tie.Need-change-requires
 change-requires c κs = search needs
@@ -23,7 +23,7 @@ returns-2 c =
     let first = c .before in
     let tested = first .before in
     let asked = tested .before .before .args in
-    c .change .ensures ∙ sym (shown-sound treeView (treeOf (asked .words .now) (asked .summary)) _ _ (tested .sound .ensures) (first .if1 .left))
+    c .change .ensures ∙ sym (shown-sound treeView (treeOf (asked .words .now) (asked .stored)) _ _ (tested .sound .ensures) (first .if1 .left))
 
 pub judged-change-spec : {M : Type 1} → statement M
 judged-change-spec = tie.close (tie.spec sound-requires returns change-requires returns-2)

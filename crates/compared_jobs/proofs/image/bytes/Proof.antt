@@ -5,10 +5,10 @@ use Rattle.compared_jobs.proofs.image.bytes.Statement.{statement}
 use Rattle.compared_jobs.proofs.image.bytes.Tie as tie
 
 abbrev Inv-loop : tie.InvT-loop
-Inv-loop numbers bytes₀ at₀ bytes at = at ≤ 288
+Inv-loop numbers bytes₀ at₀ bytes at = at ≤ 304
 
 abbrev μ-loop : tie.MeasureT-loop
-μ-loop numbers bytes₀ at₀ bytes at = 288 - at
+μ-loop numbers bytes₀ at₀ bytes at = 304 - at
 
 loop-holds : tie.Need-loop-holds Inv-loop μ-loop
 loop-holds c = search needs

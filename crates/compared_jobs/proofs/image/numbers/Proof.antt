@@ -5,7 +5,7 @@ use Rattle.compared_jobs.proofs.image.numbers.Statement.{statement}
 use Rattle.compared_jobs.proofs.image.numbers.Tie as tie
 
 abbrev Inv-loop : tie.InvT-loop
-Inv-loop bytes numbers₀ at₀ numbers at = at ≤ 288
+Inv-loop bytes numbers₀ at₀ numbers at = at ≤ 304
 
 abbrev μ-loop : tie.MeasureT-loop
 μ-loop bytes numbers₀ at₀ numbers at = at

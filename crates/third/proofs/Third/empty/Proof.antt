@@ -11,17 +11,17 @@ use Rattle.third.proofs.Third.empty.Statement.{statement}
 use Rattle.third.proofs.Third.empty.Tie as tie
 
 sound-requires : tie.Need-sound-requires
-sound-requires c κs = let entry = c .before .before .before in is-third (entry .args .t1) (entry .good .0)
+sound-requires c κs = let entry = c .before .before .before .before .before in is-third (entry .args .t1) (entry .good .0)
 
 returns : tie.Need-returns
 returns c =
     let tested = c .before in
-    sym (shown-unsound thirdView (tested .before .before .before .before .args .t1) _ _ (tested .sound .ensures) (c .if1 .taken))
+    sym (shown-unsound thirdView (tested .before .before .before .before .before .before .args .t1) _ _ (tested .sound .ensures) (c .if1 .taken))
 
 returns-2 : tie.Need-returns-2
 returns-2 c =
     let tested = c .before in
-    let entry = tested .before .before .before .before in
+    let entry = tested .before .before .before .before .before .before in
     let t = entry .args .t1 in
     ap value (empty-shown t (is-third t (entry .good .0)) (sym (tested .sound .ensures) ∙ not-false _ (c .if1 .left)))
     ∙ sym (shown-sound thirdView t _ _ (tested .sound .ensures) (c .if1 .left) ∙ empty-says 14 (slotOf t))

@@ -8,12 +8,12 @@ use Rattle.third.proofs.Third.get.Statement.{statement}
 use Rattle.third.proofs.Third.get.Tie as tie
 
 sound-requires : tie.Need-sound-requires
-sound-requires c κs = let entry = c .before .before .before in is-third (entry .args .t1) (entry .good .0)
+sound-requires c κs = let entry = c .before .before .before .before .before in is-third (entry .args .t1) (entry .good .0)
 
 returns : tie.Need-returns
 returns c =
     let tested = c .before in
-    sym (shown-unsound thirdView (tested .before .before .before .before .args .t1) _ _ (tested .sound .ensures) (c .if1 .taken))
+    sym (shown-unsound thirdView (tested .before .before .before .before .before .before .args .t1) _ _ (tested .sound .ensures) (c .if1 .taken))
 
 get-requires : tie.Need-get-requires
 get-requires c κs = search needs
@@ -22,7 +22,7 @@ returns-2 : tie.Need-returns-2
 returns-2 c =
     let first = c .before .before .before .before in
     let tested = first .before in
-    c .get .ensures ∙ sym (shown-sound thirdView (tested .before .before .before .before .args .t1) _ _ (tested .sound .ensures) (first .if1 .left))
+    c .get .ensures ∙ sym (shown-sound thirdView (tested .before .before .before .before .before .before .args .t1) _ _ (tested .sound .ensures) (first .if1 .left))
 
 pub get-spec : {M : Type 1} → statement M
 get-spec = tie.close (tie.spec sound-requires returns get-requires returns-2)

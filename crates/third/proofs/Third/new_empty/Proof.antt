@@ -1,16 +1,25 @@
--- `third::Third::new_empty` meets its contract: 256 words of no ones, and their summaries. Assumes nothing.
+-- `third::Third::new_empty` meets its contract: 256 words of no ones, and the fields that are theirs. Assumes nothing.
+use mathlib.Core.Path.{refl, sym, ap, _∙_}
+use mathlib.Core.Bool.{false}
+use mathlib.Core.List.{List}
+use Prim.Native.Nat.{ℕ}
 use Rattle.bits.specs.Digits.{number}
 use Rattle.slots.specs.Sets.{none}
-use Rattle.views.specs.Words.{listed}
-use Rattle.views.specs.Summary.{summaryOf}
-use Rattle.views.specs.Summaries.{treeWords, summariesOf}
-use Rattle.third.specs.Layout.{of-slots-under}
+use Rattle.views.specs.Words.{listed, wordsOf}
+use Rattle.views.specs.Marks.{marksOf}
+use Rattle.views.specs.Full.{fullOf}
+use Rattle.views.specs.Trees.{treeWords, eachOf}
+use Rattle.views.specs.Summaries.{summariesOf}
+use Rattle.third.specs.Layout.{under, of-slots-under}
+use Rattle.third.proofs.Outcomes.{counts-made}
 use Rattle.third.proofs.Third.new_empty.Statement.{statement}
 use Rattle.third.proofs.Third.new_empty.Tie as tie
 
 returns : tie.Need-returns
-unfolding number listed treeWords summaryOf summariesOf
-returns c = of-slots-under none
+unfolding number listed treeWords marksOf eachOf
+returns c =
+    ap (λ (counts : List ℕ). under (wordsOf 8 none) (summariesOf (wordsOf 8 none)) (eachOf fullOf (wordsOf 8 none)) counts) (sym (counts-made none false (λ i. refl)))
+    ∙ of-slots-under none
 
 pub new-empty-spec : {M : Type 1} → statement M
 new-empty-spec = tie.close (tie.spec returns)

@@ -8,14 +8,14 @@ use Rattle.answers.specs.declared.Answer.the-variants.{At}
 use Rattle.slots.specs.Calls.{takeCall}
 use Rattle.slots.specs.View.{answered, says-refused}
 use Rattle.slots.proofs.Outcomes.{take-paints}
-use Rattle.third.specs.Layout.{thirdView, slotOf}
+use Rattle.third.specs.Layout.{thirdView, slotOf, is-third-means}
 use Rattle.third.proofs.Values.{is-third}
 use Rattle.third.proofs.Outcomes.{carries}
 use Rattle.third.proofs.Third.take.Statement.{statement}
 use Rattle.third.proofs.Third.take.Tie as tie
 
 judged-take-requires : tie.Need-judged-take-requires
-judged-take-requires c κs = let entry = c .before .before .before .before in is-third (entry .args .self) (entry .good .0)
+judged-take-requires c κs = let entry = c .before .before .before .before .before .before .before .before in is-third (entry .args .self) (entry .good .0)
 
 enum-known-found : tie.Need-enum-known-found
 enum-known-found c = search needs
@@ -25,15 +25,15 @@ enum-known-found-2 c = search needs
 
 carried-out-requires : tie.Need-carried-out-requires
 carried-out-requires c κs =
-    let entry = c .before .before .before .before .before .before .before .before .before .before in
-    let held = is-third (entry .args .self) (entry .good .0) in
-    (held .is-map .is-map .so-many, held .is-map .is-field .so-many)
+    let entry = c .before .before .before .before .before .before .before .before .before .before .before .before .before .before .before .before in
+    let h = is-third-means (entry .args .self) .0 (is-third (entry .args .self) (entry .good .0)) in
+    (h .0, h .2, h .4, h .6)
 
 returns : tie.Need-returns
 returns c =
     let known = c .before in
     let judging = known .before .before in
-    let asked = judging .before .before .before .before .before .args in
+    let asked = judging .before .before .before .before .before .before .before .before .before .args in
     let t = asked .self in
     let call = takeCall 14 (slotOf t) (asked .n) (asked .a) in
     let why = known .found .given .0 .0 in
@@ -41,9 +41,9 @@ returns c =
 
 returns-2 : tie.Need-returns-2
 returns-2 c =
-    let known = c .before .before .before .before in
+    let known = c .before .before .before .before .before .before in
     let judging = known .before .before in
-    let entry = judging .before .before .before .before .before in
+    let entry = judging .before .before .before .before .before .before .before .before .before in
     let asked = entry .args in
     let t = asked .self in
     let call = takeCall 14 (slotOf t) (asked .n) (asked .a) in

@@ -1,12 +1,18 @@
 -- `tree::Tree::free` meets its contract: what was judged, carried out. Assumes nothing.
+use mathlib.Core.Path.{_∙_}
 use mathlib.Core.Bool.{false}
 use borrow.Author.Needs.{needs}
-use Rattle.slots.specs.Promises.{free-after}
+use Rattle.answers.specs.Answers.{answerSays}
+use Rattle.slots.specs.Calls.{freeCall}
+use Rattle.slots.specs.Promises.{free-after, free-passed}
 use Rattle.tree.specs.Layout.{slotOf}
 use Rattle.tree.proofs.Values.{is-tree}
-use Rattle.tree.proofs.Outcomes.{carries}
+use Rattle.tree.proofs.Outcomes.{said-is, carries}
 use Rattle.tree.proofs.Tree.free.Statement.{statement}
 use Rattle.tree.proofs.Tree.free.Tie as tie
+
+stored-requires : tie.Need-stored-requires
+stored-requires c κs = search needs
 
 slice-aggregate-judged-change : tie.Need-slice-aggregate-judged-change
 slice-aggregate-judged-change c = search needs
@@ -17,13 +23,22 @@ judged-change-requires c κs = search needs
 carried-out-requires : tie.Need-carried-out-requires
 carried-out-requires c κs = search needs
 
+tree-of-requires : tie.Need-tree-of-requires
+tree-of-requires c κs = search needs
+
 returns : tie.Need-returns
 returns c =
-    let judging = c .before .before in
-    let entry = judging .before .before .before in
+    let carrying = c .before in
+    let judging = carrying .before .before in
+    let keeping = judging .before .before in
+    let entry = keeping .before .before in
     let asked = entry .args in
     let t = asked .self in
-    carries t (is-tree t (entry .good .0)) _ (asked .start) (asked .n) false (free-after 10 (slotOf t) (asked .start) (asked .n)) (judging .judged-change .result) (judging .judged-change .ensures) _ (c .carried-out .ensures)
+    let call = freeCall 10 (slotOf t) (asked .start) (asked .n) in
+    let judge = judging .judged-change .result in
+    let told = said-is t _ (keeping .stored .ensures) call (answerSays judge) (judging .judged-change .ensures) in
+    carries t _ (keeping .stored .ensures) (is-tree t (entry .good .0)) call (asked .start) (asked .n) false (free-after 10 (slotOf t) (asked .start) (asked .n)) judge told _
+    (λ reply said. let passed = free-passed 10 (slotOf t) (asked .start) (asked .n) reply said in (passed .0 .1, passed .1)) (c .tree-of .ensures ∙ carrying .carried-out .ensures)
 
 pub free-spec : {M : Type 1} → statement M
-free-spec = tie.close (tie.spec slice-aggregate-judged-change judged-change-requires carried-out-requires returns)
+free-spec = tie.close (tie.spec stored-requires slice-aggregate-judged-change judged-change-requires carried-out-requires tree-of-requires returns)

@@ -1,18 +1,21 @@
--- `tree::Tree::holding` meets its contract: the summary is that of the words. Assumes nothing.
-use mathlib.Core.Path.{ap}
+-- `tree::Tree::holding` meets its contract: what is stored is that of the words. Assumes nothing.
+use mathlib.Core.Path.{ap, _∙_}
 use borrow.Author.Needs.{needs}
 use Rattle.tree.specs.Layout.{treeOf}
 use Rattle.tree.proofs.Tree.holding.Statement.{statement}
 use Rattle.tree.proofs.Tree.holding.Tie as tie
 
-slice-aggregate-summary : tie.Need-slice-aggregate-summary
-slice-aggregate-summary c = search needs
+slice-aggregate-stored-of : tie.Need-slice-aggregate-stored-of
+slice-aggregate-stored-of c = search needs
 
-summary-requires : tie.Need-summary-requires
-summary-requires c κs = search needs
+stored-of-requires : tie.Need-stored-of-requires
+stored-of-requires c κs = search needs
+
+tree-of-requires : tie.Need-tree-of-requires
+tree-of-requires c κs = search needs
 
 returns : tie.Need-returns
-returns c = ap (treeOf (c .before .before .args .t1)) (c .summary .ensures)
+returns c = let storing = c .before in c .tree-of .ensures ∙ ap (treeOf (storing .before .before .args .t1)) (storing .stored-of .ensures)
 
 pub holding-spec : {M : Type 1} → statement M
-holding-spec = tie.close (tie.spec slice-aggregate-summary summary-requires returns)
+holding-spec = tie.close (tie.spec slice-aggregate-stored-of stored-of-requires tree-of-requires returns)

@@ -1,36 +1,41 @@
--- `tree::Tree::used` meets its contract: 1 where the tree is not sound, and else the count of the words. Assumes nothing.
-use mathlib.Core.Path.{sym, ap, _∙_}
+-- `tree::Tree::used` meets its contract: 1 where the tree is not sound, and else the stored count. Assumes nothing.
+use mathlib.Core.Path.{_≡_, sym, ap, _∙_}
 use borrow.Author.Needs.{needs}
+use borrow.Author.Tests.{not-false}
 use Rattle.answers.specs.Said.{value}
-use Rattle.bits.specs.Range.{count}
 use Rattle.slots.specs.Promises.{used-promise}
 use Rattle.slots.proofs.Outcomes.{shown-unsound, shown-sound}
-use Rattle.views.specs.Words.{slots-are}
-use Rattle.views.specs.Summary.{sixteen-fit}
 use Rattle.tree.specs.Layout.{treeView, slotOf}
 use Rattle.tree.proofs.Values.{is-tree}
+use Rattle.tree.proofs.Outcomes.{test-is, used-shown}
 use Rattle.tree.proofs.Tree.used.Statement.{statement}
 use Rattle.tree.proofs.Tree.used.Tie as tie
+
+stored-requires : tie.Need-stored-requires
+stored-requires c κs = search needs
 
 sound-requires : tie.Need-sound-requires
 sound-requires c κs = search needs
 
+-- the test is that of the tree
+tested-at : (c : tie.After-sound) → c .sound .result ≡ treeView .isSound (c .before .before .before .before .before .args .t1)
+tested-at c = let keeping = c .before .before .before .before in test-is (keeping .before .args .t1) _ (keeping .stored .ensures) _ (c .sound .ensures)
+
 returns : tie.Need-returns
 returns c =
     let tested = c .before in
-    sym (shown-unsound treeView (tested .before .before .before .before .args .t1) _ _ (tested .sound .ensures) (c .if1 .taken))
+    sym (shown-unsound treeView (tested .before .before .before .before .before .args .t1) _ _ (tested-at tested) (c .if1 .taken))
 
-count-requires : tie.Need-count-requires
-count-requires c κs = search needs
+cast-t11 : tie.Need-cast-t11
+cast-t11 c = search needs
 
 returns-2 : tie.Need-returns-2
 returns-2 c =
-    let first = c .before .before .before .before in
-    let tested = first .before in
-    let entry = tested .before .before .before .before in
+    let tested = c .before in
+    let entry = tested .before .before .before .before .before in
     let t = entry .args .t1 in
-    ap value (c .count .ensures ∙ ap (count (slotOf t) 0) (slots-are 4 sixteen-fit (t .words) (is-tree t (entry .good .0) .is-map)))
-    ∙ sym (shown-sound treeView t _ _ (tested .sound .ensures) (first .if1 .left) ∙ used-promise 10 (slotOf t))
+    ap value (used-shown t (is-tree t (entry .good .0)) (sym (tested-at tested) ∙ not-false _ (c .if1 .left)))
+    ∙ sym (shown-sound treeView t _ _ (tested-at tested) (c .if1 .left) ∙ used-promise 10 (slotOf t))
 
 pub used-spec : {M : Type 1} → statement M
-used-spec = tie.close (tie.spec sound-requires returns count-requires returns-2)
+used-spec = tie.close (tie.spec stored-requires sound-requires returns cast-t11 returns-2)
