@@ -1,6 +1,7 @@
 #!/usr/bin/env python3
 """The blackboard's examples once more, worked out from the papers' sentences alone: document 01's, for the third level
-those of request One, for jobs those of request Three, and for what a map stores those of request Four.
+those of request One, for jobs those of request Three, for what a map stores those of request Four, and for images those
+of request Five.
 
 Nothing here is shared with the crates: no code, no table, no list of examples. Where the crates use
 masks, this counts: a power of two is found by trying exponents, a multiple by dividing whole numbers
@@ -220,6 +221,57 @@ class Jobs:
     def count(self):
         self.sound()
         return len(self.running) + len(self.reaped)
+
+
+# what request Five says: an image is a list of 136 bytes, two fields of a tag, a length and a body. The words are one body
+# and the summary is the other. Write and read turn a tree into an image and back; a call for C works on the image
+
+
+def low_first(number, size):
+    """The bytes of a number."""
+    return [number // 256**k % 256 for k in range(size)]
+
+
+def image(m):
+    body = [sum(2**bit for bit in range(8) if 8 * byte + bit in m.used) for byte in range(128)]
+    return [32] + low_first(128, 2) + body + [33] + low_first(2, 2) + low_first(m.told[0], 2)
+
+
+def write(m, buffer):
+    refuse(16, len(buffer) != 136)
+    m.sound()
+    buffer[:] = image(m)
+
+
+def fields(held):
+    """Tag and body of each field; what is cut short is no field."""
+    rest = list(held)
+    while rest:
+        size = rest[1] + 256 * rest[2] if len(rest) > 2 else len(rest)
+        refuse(16, len(rest) < 3 + size)
+        yield rest[0], rest[3 : 3 + size]
+        rest = rest[3 + size :]
+
+
+def read(held):
+    found = list(fields(held))
+    refuse(16, [(tag, len(body)) for tag, body in found] != [(32, 128), (33, 2)])
+    words, (low, high) = found[0][1], found[1][1]
+    used = {slot for slot in range(1024) if words[slot // 8] // 2 ** (slot % 8) % 2 == 1}
+    m = Map(1024, used, [low + 256 * high] + stored(used)[1:])
+    m.sound()
+    return m
+
+
+def for_c(buffer, call):
+    """The one signed number that a call on an image answers."""
+    try:
+        m = read(buffer)
+        start, left = call(m)
+        buffer[:] = image(Map(1024, left))
+        return start or 0
+    except Refused as refusal:
+        return -refusal.args[0]
 
 
 # ---- the lines
@@ -747,3 +799,135 @@ OPENED = set(range(64)) - {10}
 story("a mark that stays", Map(1024, OPENED, [1, 1, 63]), (next_frees, 0), (takes, 1, 0))
 story("free, then take", Map(64, {0}), (frees, 0, 1), (takes, 1, 0))
 story("take, then free", Map(64, {0}), (takes, 1, 0), (frees, 0, 1))
+
+# images. A buffer has one byte more than an image, and is lent up to some byte
+SPARE = 85
+
+
+def buffer_with(name):
+    return image(MAPS[name]) + [SPARE]
+
+
+def bytes_of(name, buffer):
+    print(f"image of the {name}: {' '.join(map(str, buffer[:136]))}")
+
+
+def on_part(buffer, length, call):
+    """What a call says of the part that is lent, and the buffer that it leaves."""
+    part = buffer[:length]
+    try:
+        said = call(part)
+    except Refused as refusal:
+        said = f"refused {refusal}"
+    return said, part + buffer[length:]
+
+
+def differing(before, after):
+    return f"bytes changed {sum(one != other for one, other in itertools.zip_longest(before, after))}"
+
+
+def writes(name, length):
+    before = 137 * [SPARE]
+    said, after = on_part(before, length, lambda part: write(MAPS[name], part) or "ok")
+    print(f"{name}: write, lent {length} bytes: {said}, {differing(before, after)}")
+
+
+def reads(name, buffer, length=136):
+    left = [Map(1024)]
+
+    def call(part):
+        left.append(read(part))
+        return "ok"
+
+    said, _ = on_part(buffer, length, call)
+    print(f"{name}: read, lent {length} bytes: {said}, leaves{picture(left[-1])}")
+    return left[-1]
+
+
+def with_bytes(buffer, *changes):
+    return [dict(changes).get(offset, byte) for offset, byte in enumerate(buffer)]
+
+
+def lends(name, buffer, length, words, call):
+    said, after = on_part(buffer, length, call)
+    print(f"{name}: slotmap_{words}, lent {length} bytes: {said}, {differing(buffer, after)}")
+    return after
+
+
+def c_take(name, buffer, n, a, length=136):
+    words = f"take {n} at a multiple of 2^{a}"
+    return lends(name, buffer, length, words, lambda part: for_c(part, lambda m: m.take(n, a)))
+
+
+def c_free(name, buffer, start, n, length=136):
+    words = f"free from {start}, {n}"
+    return lends(name, buffer, length, words, lambda part: for_c(part, lambda m: m.free(start, n)))
+
+
+def c_used(name, buffer, length=136):
+    return lends(name, buffer, length, "used", lambda part: for_c(part, lambda m: (m.count(), m.used)))
+
+
+LAST = "tree with slot 1023"
+MAPS[LAST] = Map(1024, {1023})
+for name in (BARE, PACKED, ONE, LAST):
+    bytes_of(name, buffer_with(name))
+for length in (0, 135, 137, 136):
+    writes(BARE, length)
+for name in (BAD, HIDDEN, UNMARKED, OVERMARKED, COUNT_HIGH, COUNT_LOW):
+    writes(name, 136)
+    writes(name, 135)
+
+# read: images of maps, and what is no image or one under a wrong summary
+FIRST_SLOT, UNDER_NONE = "image with slot 0", "image with slot 0 under no summary"
+of_empty, of_full, of_first = buffer_with(BARE), buffer_with(PACKED), buffer_with(ONE)
+of_none = with_bytes(of_first, (134, 0))
+for name, buffer in (
+    ("empty image", of_empty),
+    ("full image", of_full),
+    ("image with slot 1023", buffer_with(LAST)),
+    (FIRST_SLOT, of_first),
+):
+    again = image(reads(name, buffer)) + [SPARE]
+    print(f"{name}: read and written again, {differing(buffer, again)}")
+for length in (0, 135, 137):
+    reads(FIRST_SLOT, of_first, length)
+for offset, byte in ((0, 33), (1, 127), (2, 1), (131, 32), (132, 3), (133, 1), (134, 3), (135, 128)):
+    reads(f"{FIRST_SLOT}, byte {offset} as {byte}", with_bytes(of_first, (offset, byte)))
+reads(f"{FIRST_SLOT}, fields exchanged", of_first[131:136] + of_first[:131] + [SPARE])
+reads(UNDER_NONE, of_none)
+reads(UNDER_NONE, of_none, 135)
+for offset, byte in ((0, 33), (131, 32)):
+    reads(f"{UNDER_NONE}, byte {offset} as {byte}", with_bytes(of_none, (offset, byte)))
+
+# the calls for C: document 01's record on one image, and refusals in their order
+RECORD = "record of document 01"
+board = c_take(RECORD, of_empty, 3, 2)
+board = c_take(RECORD, board, 2, 0)
+board = c_free(RECORD, board, 1, 3)
+board = c_free(RECORD, board, 0, 2)
+board = c_take(RECORD, board, 4, 2)
+c_used(RECORD, board)
+bytes_of(RECORD, board)
+for n, a in ((0, 10), (1, 10), (1025, 10), (1025, 0), (1024, 9)):
+    c_take("empty image", of_empty, n, a)
+c_take("full image", of_full, 1, 0)
+for start, n in ((0, 0), (1024, 1), (TOP, 2), (1023, 1)):
+    c_free("empty image", of_empty, start, n)
+c_free("full image", of_full, 1023, 2)
+c_free("full image", of_full, 0, 1024)
+c_used("empty image", of_empty)
+c_used("full image", of_full)
+for name, buffer, length in (
+    (UNDER_NONE, of_none, 136),
+    (f"{FIRST_SLOT}, byte 0 as 33", with_bytes(of_first, (0, 33)), 136),
+    (f"{UNDER_NONE}, byte 0 as 33", with_bytes(of_none, (0, 33)), 136),
+    (FIRST_SLOT, of_first, 0),
+    (FIRST_SLOT, of_first, 135),
+    (FIRST_SLOT, of_first, 137),
+):
+    c_take(name, buffer, 0, 10, length)
+    c_take(name, buffer, 1, 0, length)
+    c_free(name, buffer, 0, 0, length)
+    c_free(name, buffer, 0, 1, length)
+    c_used(name, buffer, length)

@@ -17,6 +17,9 @@ number word_takes(number *words, number n, number a, number times);
 number orig_word_takes(number *words, number n, number a, number times);
 number word_frees(number *words, const number *starts, number count, number n);
 number orig_word_frees(number *words, const number *starts, number count, number n);
+int slotmap_take(unsigned char *image, number length, number n, number a);
+int slotmap_free(unsigned char *image, number length, number start, number n);
+int slotmap_used(const unsigned char *image, number length);
 
 struct time { long seconds, nanoseconds; };
 int clock_gettime(int clock, struct time *);
@@ -26,6 +29,37 @@ long write(int, const void *, number);
 // `count` takes of n slots at a multiple of 2^a, or frees of n slots from so many starts, on a map of `size` words.
 struct call { number way, n, a, count, rounds, size, words[256], starts[24]; };
 struct left { number used, nanoseconds, words[256]; };
+
+// The same on an image: sixteen words into one, the calls that a host in C makes, and the words out again.
+static unsigned char image[136] = {32, 128, [131] = 33, 2};
+
+static void into_image(const number *words) {
+    image[134] = image[135] = 0;
+    for (number i = 0; i < 16; i++) {
+        for (number j = 0; j < 8; j++) image[3 + 8 * i + j] = (unsigned char)(words[i] >> 8 * j);
+        image[134 + i / 8] |= (unsigned char)((words[i] != 0) << i % 8);
+    }
+}
+
+static number out_of_image(number *words) {
+    for (number i = 0; i < 16; i++) {
+        words[i] = 0;
+        for (number j = 0; j < 8; j++) words[i] |= (number)image[3 + 8 * i + j] << 8 * j;
+    }
+    return (number)slotmap_used(image, sizeof image);
+}
+
+static number image_takes(number *words, number n, number a, number times) {
+    into_image(words);
+    for (number i = 0; i < times; i++) slotmap_take(image, sizeof image, n, a);
+    return out_of_image(words);
+}
+
+static number image_frees(number *words, const number *starts, number count, number n) {
+    into_image(words);
+    for (number i = 0; i < count; i++) slotmap_free(image, sizeof image, starts[i], n);
+    return out_of_image(words);
+}
 
 __attribute__((noinline)) void carry_out(struct call *call, struct left *left) {
     switch (call->way) {
@@ -42,7 +76,11 @@ __attribute__((noinline)) void carry_out(struct call *call, struct left *left) {
     case 10: left->used = word_takes(left->words, call->n, call->a, call->count); break;
     case 11: left->used = orig_word_takes(left->words, call->n, call->a, call->count); break;
     case 12: left->used = word_frees(left->words, call->starts, call->count, call->n); break;
-    default: left->used = orig_word_frees(left->words, call->starts, call->count, call->n);
+    case 13: left->used = orig_word_frees(left->words, call->starts, call->count, call->n); break;
+    case 14: left->used = image_takes(left->words, call->n, call->a, call->count); break;
+    case 15: left->used = orig_takes(left->words, call->n, call->a, call->count); break;
+    case 16: left->used = image_frees(left->words, call->starts, call->count, call->n); break;
+    default: left->used = orig_frees(left->words, call->starts, call->count, call->n);
     }
 }
 

@@ -1,7 +1,11 @@
 -- The refusals by name, and document 01's number for each.
 use mathlib.Core.Path.{_≡_, refl, sym, ap, _∙_}
 use mathlib.Core.List.{[], _∷_}
-use Prim.Native.Nat.{ℕ}
+use mathlib.Core.Bool.{false}
+use Prim.Native.Nat.{ℕ, _≤_, _<_}
+use native.Mathlib.Omega.{arith}
+use lib.Dec.{eqb}
+use borrow.Author.Tests.{ne-eqb}
 use lib.ListN.{getD}
 use Rattle.answers.specs.declared.Refusal.{Refusal}
 use Rattle.answers.specs.declared.Refusal.the-variants.{Unsound, NoEntries, AlignmentTooGreat, PastTheEnd, AlreadyFree, AlreadyUsed, NoRoom, NotAPowerOfTwo, NoMultipleFits, EndBeforeStart, ReportTooShort, RecordTooLong}
@@ -40,6 +44,25 @@ named-number NoMultipleFits = refl
 named-number EndBeforeStart = refl
 named-number ReportTooShort = refl
 named-number RecordTooLong = refl
+
+-- there are twelve
+pub number-most : (r : Refusal) → numberOf r ≤ 12
+number-most Unsound = omega arith
+number-most NoEntries = omega arith
+number-most AlignmentTooGreat = omega arith
+number-most PastTheEnd = omega arith
+number-most AlreadyFree = omega arith
+number-most AlreadyUsed = omega arith
+number-most NoRoom = omega arith
+number-most NotAPowerOfTwo = omega arith
+number-most NoMultipleFits = omega arith
+number-most EndBeforeStart = omega arith
+number-most ReportTooShort = omega arith
+number-most RecordTooLong = omega arith
+
+-- so a number past 12 is none of theirs
+pub number-other : (r : Refusal) (k : ℕ) → 12 < k → eqb (numberOf r) k ≡ false
+number-other r k past = let most = number-most r in ne-eqb (numberOf r) k (λ e. omega (arith, e, most, past))
 
 -- what can be undone tells its arguments apart
 pub undone-injective : {A B : Type 0} (f : A → B) (undo : B → A) → ((a : A) → undo (f a) ≡ a) → (a b : A) → f a ≡ f b → a ≡ b

@@ -1,4 +1,5 @@
 pub mod Range
 pub mod Digits
 pub mod Bytes
+pub mod Buffers
 pub mod Masks

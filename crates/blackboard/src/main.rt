@@ -2,6 +2,7 @@
 // public function beside them. A program that shares nothing with this one prints the same lines.
 mod asked;
 mod edges;
+mod images;
 mod lesson;
 mod names;
 mod runs;
@@ -60,6 +61,12 @@ fn main() {
     lesson::mark_cleared();
     lesson::mark_stays();
     lesson::moved_take();
+    images::of_maps();
+    images::writes();
+    images::reads();
+    images::record();
+    images::refused_calls();
+    images::wrong_images();
 }
 
 // The lines of "Maps on the blackboard" that have no star.

@@ -1,4 +1,4 @@
-// What a line begins with: the map or the state that a call is made on, or the story of the lesson that it belongs to. Each
+// What a line begins with: the map, the state or the image that a call is made on, or the story that it belongs to. Each
 // has a number, and a call hands on the number: words that are lent to a call are slow to prove. So all of them are
 // lent at once, a line each.
 use crate::show;
@@ -123,6 +123,26 @@ pub const FREE_THEN_TAKE: u8 = 58;
 
 pub const TAKE_THEN_FREE: u8 = 59;
 
+pub const TREE_WITH_SLOT_1023: u8 = 60;
+
+pub const RECORD_OF_DOCUMENT_01: u8 = 61;
+
+pub const EMPTY_IMAGE: u8 = 62;
+
+pub const FULL_IMAGE: u8 = 63;
+
+pub const IMAGE_WITH_SLOT_0: u8 = 64;
+
+pub const IMAGE_WITH_SLOT_1023: u8 = 65;
+
+pub const IMAGE_WITH_SLOT_0_FIELDS_EXCHANGED: u8 = 66;
+
+pub const IMAGE_WITH_SLOT_0_UNDER_NO_SUMMARY: u8 = 67;
+
+pub const IMAGE_WITH_SLOT_0_BYTE_0_AS_33: u8 = 68;
+
+pub const IMAGE_WITH_SLOT_0_UNDER_NO_SUMMARY_BYTE_0_AS_33: u8 = 69;
+
 // Prints the words of a number, which are that line of these; one that has none prints nothing.
 pub fn put(k: u8) {
     show::line(
@@ -186,6 +206,16 @@ a mark that is cleared
 a mark that stays
 free, then take
 take, then free
+tree with slot 1023
+record of document 01
+empty image
+full image
+image with slot 0
+image with slot 1023
+image with slot 0, fields exchanged
+image with slot 0 under no summary
+image with slot 0, byte 0 as 33
+image with slot 0 under no summary, byte 0 as 33
 ",
         k,
     );

@@ -8,7 +8,7 @@ use tree::Changed;
 use tree::Tree;
 
 // The map that is left, to the end of the line.
-fn shown(map: Tree) {
+pub fn shown(map: Tree) {
     let words = map.words();
     runs::left(&words, 1024, map.summary());
     runs::beside(map.full(), map.count());

@@ -2,11 +2,11 @@
 use mathlib.Core.Path.{_≡_, refl, ap}
 use mathlib.Core.Bool.{true, false}
 use Prim.Native.Nat.{ℕ}
+use native.Mathlib.Omega.{arith}
 use lib.Dec.{eqb}
 use Rattle.answers.specs.Said.{Said, value, refused}
-use Rattle.answers.specs.Refusals.{numberOf, named, named-number, undone-injective}
+use Rattle.answers.specs.Refusals.{numberOf, number-other, named, named-number, undone-injective}
 use Rattle.answers.specs.Answers.{Reply, at, ok, saying}
-use Rattle.answers.specs.declared.Refusal.the-variants.{Unsound, NoEntries, AlignmentTooGreat, PastTheEnd, AlreadyFree, AlreadyUsed, NoRoom, NotAPowerOfTwo, NoMultipleFits, EndBeforeStart, ReportTooShort, RecordTooLong}
 use Rattle.slots.specs.Jobs.{SlotState, free, running, reaped}
 use Rattle.jobs.specs.declared.JobRefusal.{JobRefusal}
 use Rattle.jobs.specs.declared.JobRefusal.the-variants.{Map, NotRunning, NotReaped}
@@ -39,18 +39,7 @@ jobNamed n = elim (eqb n 13) [ true ↦ NotRunning | false ↦ elim (eqb n 14) [
 
 job-named-number : (r : JobRefusal) → jobNamed (jobNumberOf r) ≡ r
 unfolding jobNamed
-job-named-number (Map Unsound) = refl
-job-named-number (Map NoEntries) = refl
-job-named-number (Map AlignmentTooGreat) = refl
-job-named-number (Map PastTheEnd) = refl
-job-named-number (Map AlreadyFree) = refl
-job-named-number (Map AlreadyUsed) = refl
-job-named-number (Map NoRoom) = refl
-job-named-number (Map NotAPowerOfTwo) = refl
-job-named-number (Map NoMultipleFits) = refl
-job-named-number (Map EndBeforeStart) = refl
-job-named-number (Map ReportTooShort) = refl
-job-named-number (Map RecordTooLong) = refl
+job-named-number (Map why) = rw (jobNamed, number-other why 13 (omega arith), number-other why 14 (omega arith)) (ap Map (named-number why))
 job-named-number NotRunning = refl
 job-named-number NotReaped = refl
 

@@ -10,7 +10,7 @@ use lib.ListN.{length, getD, take, drop, length-drop, drop-of-length-le}
 use lib.Seq.{drop-cons}
 use borrow.Author.Tests.{lt-ltb, le-ltb, le-leb, lt-leb, ne-eqb, ltb-true, ltb-false}
 use Rattle.bits.specs.Range.{either}
-use Rattle.bits.specs.Bytes.{fromBytes}
+use Rattle.bits.specs.Bytes.{fromBytes, numberIn}
 use Rattle.slots.specs.Plain.{Asked, take as askTake, claim as askClaim, free as askFree}
 
 -- ---- the header
@@ -64,7 +64,7 @@ pub data Field : Type 0 where
 
 -- the number in the two bytes from an offset on; bytes that are not there count nothing
 abbrev pub numberAt : List ℕ → ℕ → ℕ
-numberAt bytes i = fromBytes (take 2 (drop i bytes))
+numberAt bytes i = numberIn 2 bytes i
 
 -- what a kind makes of its body's two numbers. A take's second one, the exponent, has one byte
 abbrev pub fieldOf : Kind → List ℕ → Field
@@ -89,11 +89,6 @@ number-none bytes i past = rw (drop-of-length-le bytes {i = i} past)
 
 pub number-one : (bytes : List ℕ) (i : ℕ) → suc i ≡ length bytes → numberAt bytes i ≡ getD bytes i 0
 number-one bytes i last = rw (drop-cons bytes i 0 (omega arith), drop-of-length-le bytes {i = suc i} (omega arith)) (one-byte (getD bytes i 0))
-
-pub number-two : (bytes : List ℕ) (i : ℕ) → suc i < length bytes → numberAt bytes i ≡ getD bytes (i + 1) 0 * 256 + getD bytes i 0
-number-two bytes i inside =
-    let next : suc i ≡ i + 1 = omega arith in
-    rw (← next, drop-cons bytes i 0 (omega arith), drop-cons bytes (suc i) 0 inside) (two-bytes (getD bytes i 0) (getD bytes (suc i) 0))
 
 module _ (a b c d : ℕ) where
   pub take-body : fieldOf takes (a ∷ b ∷ c ∷ []) ≡ call (askTake (b * 256 + a) c)

@@ -22,7 +22,8 @@ use Rattle.runner.specs.declared.fields.Piece.{Piece}
 use Rattle.report.specs.Fields.{Field, call, skip, bad, cut, firstField}
 use Rattle.report.specs.Report.{used, written, carried, reportFrom, report-end, report-reads, reportOf, over, ran, ran-accepted}
 use Rattle.report.specs.Limits.{report-fits}
-use Rattle.runner.specs.Inner.{lineSays, fieldSays, PieceSays, StepSays, putAt, put-length, put-over}
+use Rattle.bits.specs.Buffers.{putAt, put-length}
+use Rattle.runner.specs.Inner.{lineSays, fieldSays, PieceSays, StepSays, put-over}
 
 pub record Running (bytes before : List ℕ) (map : Tree) (next end : ℕ) (report : List ℕ) : Type 0 where
   -- the report so far

@@ -5,7 +5,7 @@ use Prim.Native.Nat.{ℕ, _+_, _≤_}
 use native.Mathlib.Omega.{arith}
 use lib.ListN.{length, length-append}
 use Rattle.report.specs.Report.{decimal, end, numbered}
-use Rattle.runner.specs.Inner.{putAt, put-length, put-put}
+use Rattle.bits.specs.Buffers.{putAt, put-length, put-put}
 
 module _ (report word : List ℕ) (offset n : ℕ) (fits : offset + length (numbered word n) ≤ length report) where
   long : length (numbered word n) ≡ length word + length (decimal n) + 1

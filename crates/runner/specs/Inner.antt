@@ -3,9 +3,8 @@
 use mathlib.Core.Path.{_≡_, sym, ap, _∙_}
 use mathlib.Core.List.{List, _++_, append-assoc}
 use Prim.Native.Nat.{ℕ, _+_, _≤_, _<_}
-use native.Mathlib.Omega.{arith}
-use lib.ListN.{length, take, drop, length-append, length-drop}
-use lib.Seq.{length-take-le, take-at, drop-at, drop-drop, take-append-seam, drop-append-add}
+use lib.ListN.{length, take, drop, length-append}
+use lib.Seq.{drop-drop, take-append-seam, drop-append-add}
 use Rattle.answers.specs.Answers.{answerSays}
 use Rattle.answers.specs.declared.Answer.{Answer}
 use Rattle.slots.specs.Plain.{take as askTake, claim as askClaim, free as askFree}
@@ -18,6 +17,7 @@ use Rattle.runner.specs.declared.fields.Field.the-variants.{Take as Fiel
 use Rattle.runner.specs.declared.fields.Piece.{Piece}
 use Rattle.runner.specs.declared.lines.Line.{Line as CodeLine}
 use Rattle.runner.specs.declared.lines.Line.the-variants.{Said as Line·Said, Skipped as Line·Skipped, Stopped as Line·Stopped, Short as Line·Short}
+use Rattle.bits.specs.Buffers.{putAt}
 use Rattle.report.specs.Fields.{Kind, takes, claims, frees, skips, stops, Field, call, skip, bad, cut, firstField}
 use Rattle.report.specs.Report.{Line, said, skipped, stopped, short, carried, over}
 
@@ -58,57 +58,7 @@ SaidSays answer left r = _≡_ {A = Line × Tree} (lineSays (r .line), r .map) (
 abbrev pub StepSays : Tree → CodeField → Step → Type 0
 StepSays t field r = (lineSays (r .line), r .map) ≡ carried t (fieldSays field)
 
--- the text in a buffer from an offset on
-unfoldable pub putAt : List ℕ → ℕ → List ℕ → List ℕ
-putAt buffer offset text = take offset buffer ++ (text ++ drop (offset + length text) buffer)
-
-module _ (buffer : List ℕ) (offset : ℕ) where
-  -- the buffer is as long as it was
-  pub put-length : (text : List ℕ) → offset + length text ≤ length buffer → length (putAt buffer offset text) ≡ length buffer
-  unfolding putAt
-  put-length text fits =
-      let front = length-take-le offset buffer (omega arith) in
-      simp (length-append, front, length-drop) (omega arith)
-
-  -- one text after another is the two of them
-  pub put-put : (text more : List ℕ) → offset + length text ≤ length buffer
-      → putAt (putAt buffer offset text) (offset + length text) more ≡ putAt buffer offset (text ++ more)
-  unfolding putAt
-  put-put text more fits = (λ i. front i ++ (more ++ back i)) ∙ joined
-    where
-      head : List ℕ
-      head = take offset buffer ++ text
-
-      all : List ℕ
-      all = take offset buffer ++ (text ++ drop (offset + length text) buffer)
-
-      split : all ≡ head ++ drop (offset + length text) buffer
-      split = sym (append-assoc (take offset buffer) text (drop (offset + length text) buffer))
-
-      long : length head ≡ offset + length text
-      long = let short = length-take-le offset buffer (omega arith) in simp (length-append, short)
-
-      front : take (offset + length text) all ≡ head
-      front = ap (take (offset + length text)) split ∙ take-at head _ (offset + length text) long
-
-      ends : offset + length text + length more ≡ offset + length (text ++ more)
-      ends = let both = length-append text more in omega (arith, both)
-
-      back : drop (offset + length text + length more) all ≡ drop (offset + length (text ++ more)) buffer
-      back =
-          ap (drop (offset + length text + length more)) split
-          ∙ sym (drop-drop (length more) (offset + length text) (head ++ drop (offset + length text) buffer))
-          ∙ ap (drop (length more)) (drop-at head _ (offset + length text) long)
-          ∙ drop-drop (length more) (offset + length text) buffer
-          ∙ ap (λ (n : ℕ). drop n buffer) ends
-
-      joined : head ++ (more ++ drop (offset + length (text ++ more)) buffer)
-          ≡ take offset buffer ++ ((text ++ more) ++ drop (offset + length (text ++ more)) buffer)
-      joined =
-          append-assoc (take offset buffer) text (more ++ drop (offset + length (text ++ more)) buffer)
-          ∙ ap (λ (rest : List ℕ). take offset buffer ++ rest) (sym (append-assoc text more (drop (offset + length (text ++ more)) buffer)))
-
--- and what follows the report so far makes the report longer
+-- what follows the report so far makes the report longer
 pub put-over : (buffer text more : List ℕ) → putAt (over text buffer) (length text) more ≡ over (text ++ more) buffer
 unfolding putAt
 put-over buffer text more = (λ i. front i ++ (more ++ back i)) ∙ sym (append-assoc text more (drop (length (text ++ more)) buffer))

@@ -4,7 +4,8 @@ ghost use mathlib.Core.Path.{_≡_};
 ghost use Prim.Native.Nat.{_+_, _≤_};
 ghost use lib.ListN.{length};
 ghost use Rattle.report.specs.Report.{written, numbered};
-ghost use Rattle.runner.specs.Inner.{lineSays, answerLine, putAt};
+ghost use Rattle.bits.specs.Buffers.{putAt};
+ghost use Rattle.runner.specs.Inner.{lineSays, answerLine};
 
 // A line of a field: what a call said, or what became of a field that was no call.
 pub enum Line {

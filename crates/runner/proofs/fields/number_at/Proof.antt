@@ -1,8 +1,8 @@
 -- `runner::fields::number_at` meets its contract: none, one or two of the bytes are there. Assumes nothing.
 use mathlib.Core.Path.{sym}
 use native.Mathlib.Omega.{arith}
-use Rattle.report.specs.Fields.{number-none, number-one, number-two}
-use mathlib.Core.Path.{sym}
+use Rattle.bits.specs.Bytes.{number-two}
+use Rattle.report.specs.Fields.{number-none, number-one}
 use borrow.Author.Needs.{needs}
 use Rattle.runner.proofs.fields.number_at.Statement.{statement}
 use Rattle.runner.proofs.fields.number_at.Tie as tie

@@ -6,7 +6,7 @@ use native.Mathlib.Omega.{arith}
 use lib.ListN.{length, take, drop, drop-of-length-le}
 use lib.Seq.{take-length}
 use borrow.Rule.Slice.PartMut.{midOf, putMid, mid-len, post-is}
-use Rattle.runner.specs.Inner.{putAt}
+use Rattle.bits.specs.Buffers.{putAt}
 use borrow.Author.Needs.{needs}
 use Rattle.runner.proofs.lines.put.Statement.{statement}
 use Rattle.runner.proofs.lines.put.Tie as tie

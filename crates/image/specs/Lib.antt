@@ -1,0 +1,5 @@
+pub mod Image
+pub mod ImageAnswers
+pub mod Contracts
+pub mod Inner
+pub mod Demands
