@@ -53,6 +53,8 @@ pub struct Reading {
 
 // ---- a map into an image and back
 
+// Both ask the tree for its count, which it refuses exactly where it is not sound.
+
 // Writes the image of the map over all the bytes. Refused: 16 where there are not 136 of them, 1 where
 // the map is not sound. A refusal leaves every byte as it was.
 pub fn write(map: Tree, image: &mut [u8]) -> ImageAnswer
