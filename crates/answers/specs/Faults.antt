@@ -6,7 +6,7 @@ use mathlib.Core.Bool.{Bool, true, false, not, _&&_, _||_}
 use mathlib.Core.List.{List, [], _∷_}
 use Prim.Native.Nat.{ℕ, _<_, _≤_}
 use native.Mathlib.Nat.{le-of-eq, le-of-lt, lt-trans, not-le-of-lt}
-use lib.Dec.{T, leb, ltb, eqb, leb→le, le→leb, ltb→lt, lt→ltb, eqb→eq, eqb-refl}
+use lib.Dec.{T, leb, ltb, eqb, leb→le, le→leb, ltb→lt, lt→ltb, eqb→eq, eqb-refl, not-T, T-not}
 use Rattle.answers.specs.Said.{Said, value, refused, Check, _when_, judged, value≢refused, value-injective, refused-injective}
 
 infix 10 _if_
@@ -111,6 +111,10 @@ finds-both false b p q = (λ t. absurd t, λ h. p .1 (h .0))
 pub finds-either : (a b : Bool) {P Q : Type 0} → T a ↔ P → T b ↔ Q → T (a || b) ↔ (P ⊎ Q)
 finds-either true b p q = (λ t. inl (p .0 tt), λ h. tt)
 finds-either false b p q = (λ t. inr (q .0 t), ⊎-elim (λ h. absurd (p .1 h)) (q .1))
+
+-- a test turned round finds that it is not so
+pub finds-not : (b : Bool) {P : Type 0} → T b ↔ P → T (not b) ↔ (P → ⊥)
+finds-not b found = (λ t p. T-not b t (found .1 p), λ none. not-T b (λ t. none (found .0 t)))
 
 -- ---- the law that every call's definition is held to
 

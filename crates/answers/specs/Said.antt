@@ -114,3 +114,9 @@ module _ {A M : Type 0} (after : A → M) (before : M) where
   unfolding leaving
   leaving-value (value b) a e = ap after (value-injective e)
   leaving-value (refused k) a e = absurd (value≢refused a k (sym e))
+
+-- a call that changes nothing leaves what there was, whatever is said
+pub leaving-kept : {A M : Type 0} (said : Said A) (m : M) → leaving said (λ _. m) m ≡ (said, m)
+unfolding leaving
+leaving-kept (value a) m = refl
+leaving-kept (refused k) m = refl

@@ -6,12 +6,12 @@ use mathlib.Core.Bool.{Bool, true, false, not}
 use mathlib.Core.List.{List, [], _∷_, _++_}
 use Prim.Native.Nat.{ℕ, zero, suc}
 use native.Mathlib.Omega.{arith}
-use lib.Dec.{T, eqb, not-T, T-not}
+use lib.Dec.{T, eqb}
 use lib.IntN.{ℤ, pos, negsuc, negℤ}
 use lib.ListN.{length}
 use lib.Pow.{areBytes}
-use Rattle.answers.specs.Said.{Said, value, refused, Check, _when_, judged, judged-onValue, onValue, leaving, leaving-says, leaving-refused, leaving-value, value≢refused, value-injective, refused-injective}
-use Rattle.answers.specs.Faults.{Fault, _if_, First, NoFault, Rising, Finds, judged-refuses, judged-accepts, finds-eq}
+use Rattle.answers.specs.Said.{Said, value, refused, Check, _when_, judged, judged-onValue, onValue, leaving, leaving-says, leaving-refused, leaving-value, leaving-kept, value≢refused, value-injective, refused-injective}
+use Rattle.answers.specs.Faults.{Fault, _if_, First, NoFault, Rising, Finds, judged-refuses, judged-accepts, finds-eq, finds-not}
 use Rattle.answers.specs.Answers.{Reply, ok, answerSays, numberSays}
 use Rattle.answers.specs.declared.Number.{Number}
 use Rattle.bits.specs.Range.{same-test}
@@ -32,10 +32,6 @@ use Rattle.image.specs.Inner.{leftOn}
 use Rattle.image.specs.Contracts.{NumberSays, written, WriteSays, imageChecks, readOf, ReadSays, Asked, take, free, used, onBytes, callOf, answeredOn, told, onImage, Tells, TakeTells, FreeTells, UsedTells}
 
 -- ---- when a call is refused
-
--- a test that finds nothing names the fault
-finds-not : (b : Bool) {P : Type 0} → T b ↔ P → T (not b) ↔ (P → ⊥)
-finds-not b found = (λ t p. T-not b t (found .1 p), λ no. not-T b (λ t. no (found .0 t)))
 
 -- two such tests pass exactly where neither fault holds
 both-pass : (a b : Bool) {P Q : Type 0} → T a ↔ P → T b ↔ Q → (judged ((16 when not a) ∷ (1 when not b) ∷ []) ok ≡ value ok) ↔ (P × Q)
@@ -246,12 +242,6 @@ module _ (bytes : List ℕ) (are : T (areBytes bytes)) (r : Reading) (read : Rea
 
 -- ---- a call for C is the tree's call on the map that the image holds
 
--- where nothing is changed, what is left is what there was
-kept : {A M : Type 0} (said : Said A) (m : M) → leaving said (λ _. m) m ≡ (said, m)
-unfolding leaving
-kept (value a) m = refl
-kept (refused k) m = refl
-
 module _ (bytes : List ℕ) where
   -- bytes that are no image are refused with 16, before all else
   pub no-image : (c : Call (List ℕ) ℕ) → isImage bytes ≡ false → answeredOn bytes c ≡ (refused 16, bytes)
@@ -266,7 +256,7 @@ module _ (bytes : List ℕ) where
         let counted = usedCall 10 (slotOf (heldIn bytes)) in
         ap (λ (b : Bool). leaving (judged ((16 when not b) ∷ (1 when not (treeView .isSound (heldIn bytes))) ∷ counted .checks) (counted .answer)) (λ _. bytes) bytes) is
         ∙ ap (λ (said : Said ℕ). leaving said (λ _. bytes) bytes) (sym outcome)
-        ∙ kept (numberSays q) bytes
+        ∙ leaving-kept (numberSays q) bytes
 
     by-said : (c : Call Slots Reply) (r : Changed) → Tree.Leaves (heldIn bytes) c r → (said : Said Reply) → answered treeView (heldIn bytes) c ≡ said
         → leaving (onValue numbered said) (λ _. imageOf (ofSlots (c .after))) bytes ≡ leftOn bytes r

@@ -6,10 +6,10 @@ use mathlib.Core.Bool.{Bool, true, false, not}
 use mathlib.Core.List.{List, _∷_}
 use Prim.Native.Nat.{ℕ, _^_, _≤_, _<_}
 use native.Mathlib.Omega.{arith}
-use lib.Dec.{T, ltb, not-T, T-not}
+use lib.Dec.{T, ltb}
 use borrow.Author.Tests.{ltb-true, ltb-false, not-false}
 use Rattle.answers.specs.Said.{Said, value, refused, _when_, judged, judged-checked, leaving, leaving-says, leaving-refused, leaving-keeps}
-use Rattle.answers.specs.Faults.{Fault, _if_, FaultsDecide, faults-decide}
+use Rattle.answers.specs.Faults.{Fault, _if_, FaultsDecide, faults-decide, finds-not}
 use Rattle.bits.specs.Range.{either, same-test}
 use Rattle.slots.specs.Kinds.{Kind, State}
 use Rattle.slots.specs.Calls.{Call, says, leaves}
@@ -82,10 +82,7 @@ module _ {K : Kind} (L : View K) where
     answered-decided fs h =
         faults-decide _ _ (c .answer) (omega arith, h .rising) (
           refl,
-          (
-            λ t sound. T-not (L .isSound m) t (L .finds-sound m .1 sound),
-            λ unsound. not-T (L .isSound m) (λ t. unsound (L .finds-sound m .0 t)),
-          ),
+          finds-not (L .isSound m) (L .finds-sound m),
           λ _. h .finds,
         )
 

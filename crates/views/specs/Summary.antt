@@ -1,16 +1,17 @@
 -- The summary kept beside words in a row: bit i is 1 exactly if word i is not 0. Rests on `Marks`.
 use mathlib.Core.Path.{_≡_, sym, ap, _∙_}
 use mathlib.Core.Logic.{_↔_}
-use mathlib.Core.Bool.{Bool, true, false, not, _&&_, true≢false}
+use mathlib.Core.Bool.{Bool, false, not, true≢false}
 use mathlib.Core.List.{List}
-use Prim.Native.Nat.{ℕ, _+_, _-_, _*_, _/_, _^_, _≤_, _<_, zero-le, min}
+use Prim.Native.Nat.{ℕ, _+_, _-_, _*_, _/_, _^_, _≤_, _<_, zero-le}
 use native.Mathlib.Omega.{arith}
-use lib.ListN.{length, getD, List·getD-eq-default}
-use lib.Dec.{T, eqb, eqb→eq, leb, ltb, ltb→lt, lt→ltb, not-T, T-not}
+use lib.ListN.{getD}
+use lib.Dec.{T, eqb, eqb→eq, not-T}
 use lib.Pow.{pow-pos, pow-add}
-use borrow.Author.Tests.{ltb-true, ltb-false, eq-eqb, eqb-true, not-false}
-use Rattle.bits.specs.Range.{either, same-test}
-use Rattle.bits.specs.Digits.{digit, number, digit-number, number-lt, number-agree, zero-digit, equal-digits}
+use borrow.Author.Tests.{eq-eqb, eqb-true, not-false}
+use Rattle.answers.specs.Faults.{finds-eq, finds-not}
+use Rattle.bits.specs.Range.{same-test}
+use Rattle.bits.specs.Digits.{digit, digit-number, number-lt, zero-digit, equal-digits}
 use Rattle.slots.specs.Sets.{Slots, Named, AllFree, SomeUsed, allFree, finds-all-free, finds-some-used}
 use Rattle.views.specs.Keeping.{Kept}
 use Rattle.views.specs.Painting.{slotsIn, slotIn, slot-in-word}
@@ -33,10 +34,7 @@ abbrev pub NotZero : ℕ → Type 0
 NotZero word = word ≡ 0 → ⊥
 
 pub finds-not-zero : (word : ℕ) → T (notZero word) ↔ NotZero word
-finds-not-zero word = (
-  λ t e. T-not (eqb word 0) t (rw (eq-eqb word 0 e) tt),
-  λ h. not-T (eqb word 0) (λ t. h (eqb→eq word 0 t)),
-)
+finds-not-zero word = finds-not (eqb word 0) (finds-eq word 0)
 
 abbrev pub usedWord : List ℕ → ℕ → Bool
 usedWord words i = notZero (getD words i 0)
