@@ -59,7 +59,8 @@ def is_aligned(v, a):
 
 
 def pages(x):
-    return align_up(x, 4096) // 4096
+    """One for each page that begins below x."""
+    return len(range(0, x, 4096))
 
 
 def overlap(a, b, c, d):
@@ -558,9 +559,9 @@ narrow("is", 2**32 - 4096, "a multiple of", 4096, is_aligned)
 narrow("is", 6, "a multiple of", 6, is_aligned)
 
 # pages
-for x in (1, 2**64 - 4096, 2**64 - 4095):
+for x in (1, 2**64 - 4096, 2**64 - 4095, TOP):
     line(f"round up to a page {x}", lambda: align_up(x, 4096))
-for x in (0, 4096, 4097, 2**64 - 4096, TOP):
+for x in (0, 1, 4096, 4097, 2**64 - 4096, 2**64 - 4095, TOP):
     line(f"pages for {x}", lambda: pages(x))
 for x in (4096, TOP):
     line(f"page offset of {x}", lambda: x % 4096)

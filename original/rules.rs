@@ -37,16 +37,20 @@ pub fn due<'a>(request: &'a Request, original: &'a Outcome) -> Option<(Answer, &
     let answer = match (refusal(request), original.answer) {
         (Some(number), _) => Answer::Refused(number),
         (None, Answer::NotFound) => Answer::Refused(7),
-        (None, Answer::Missing(_)) if is_whole_mask(request) => Answer::Number(u64::MAX),
-        (None, Answer::Missing(_)) => return None,
+        (None, Answer::Missing(_)) => Answer::Number(by_the_paper(request)?),
         (None, answer) => return Some((answer, &original.map)),
     };
     Some((answer, &request.map))
 }
 
-/// The mask of all 64 bits, the one accepted call that the original has no answer to: it shifts by 64.
-fn is_whole_mask(request: &Request) -> bool {
-    (request.op, request.x, request.y) == (Op::Mask, 0, 63)
+/// The answer to an accepted call that the original has none to. There are two kinds: the mask of all 64 bits, for which
+/// it shifts by 64, and a count of pages to which the last one belongs, for which it adds past the width.
+fn by_the_paper(request: &Request) -> Option<u64> {
+    match (request.op, request.x, request.y) {
+        (Op::Mask, 0, 63) => Some(u64::MAX),
+        (Op::Pages, x, _) if x > highest(64, 4096) => Some(1 << 52),
+        _ => None,
+    }
 }
 
 /// The original's `None` is no room, and to a take also too great an alignment or too many entries.
@@ -72,8 +76,8 @@ pub fn refusal(request: &Request) -> Option<u64> {
         Op::Slots(layout, act) => slots_refusal(layout, act, request),
         Op::Round(Way::Up, width) => first_of(&[(!y.is_power_of_two(), 8), (x > highest(width, y), 9)]),
         Op::Round(..) => first_of(&[(!y.is_power_of_two(), 8)]),
-        Op::PageUp | Op::Pages => first_of(&[(x > highest(64, 4096), 9)]),
-        Op::PageOffset => None,
+        Op::PageUp => first_of(&[(x > highest(64, 4096), 9)]),
+        Op::Pages | Op::PageOffset => None,
         Op::Overlap => first_of(&[(x > y || first > last, 10)]),
         Op::Bit => first_of(&[(x > 63, 4)]),
         Op::Mask => first_of(&[(y > 63, 4), (y < x, 10)]),

@@ -51,10 +51,13 @@ pub fn pages() {
     show::page_align_up(1);
     show::page_align_up(18446744073709547520);
     show::page_align_up(18446744073709547521);
+    show::page_align_up(18446744073709551615);
     show::round_to_pages(0);
+    show::round_to_pages(1);
     show::round_to_pages(4096);
     show::round_to_pages(4097);
     show::round_to_pages(18446744073709547520);
+    show::round_to_pages(18446744073709547521);
     show::round_to_pages(18446744073709551615);
     show::page_offset(4096);
     show::page_offset(18446744073709551615);

@@ -146,7 +146,7 @@ pub fn page_align_up(x: u64) {
 pub fn round_to_pages(x: u64) {
     text(b"pages for ");
     number(x);
-    number_answer(rounding::pages::round_to_pages(x));
+    value(rounding::pages::round_to_pages(x));
 }
 
 pub fn page_offset(x: u64) {

@@ -20,7 +20,7 @@ pub(crate) fn told(request: &[u8; 152]) -> Said {
         53 => said::of_narrow(narrow::align_down(low_half(x), low_half(y))),
         54 => said::of_truth(narrow::is_aligned(low_half(x), low_half(y))),
         55 => said::of_number(pages::page_align_up(x)),
-        56 => said::of_number(pages::round_to_pages(x)),
+        56 => said::number(pages::round_to_pages(x)),
         57 => said::number(pages::page_offset(x)),
         58 => overlap(request, x, y),
         59 => said::of_number(bits::one_bit(x as usize)),

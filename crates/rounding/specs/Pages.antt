@@ -1,13 +1,13 @@
--- Pages of 4,096 in document 01's terms: what is answered, the contracts, and what the answers mean. Rests on `Multiples`.
+-- Pages of 4,096 in the papers' terms: what is answered, the contracts, and what the answers mean. Rests on `Multiples`.
 use mathlib.Core.Path.{_≡_, refl, sym, _∙_}
-use mathlib.Core.Logic.{_↔_}
+use mathlib.Core.Logic.{_↔_, inl, ⊎-elim}
 use mathlib.Core.List.{[], _∷_}
-use Prim.Native.Nat.{ℕ, _+_, _*_, _/_, _%_, _^_, _≤_, _<_}
+use Prim.Native.Nat.{ℕ, _+_, _-_, _*_, _/_, _%_, _^_, _≤_, _<_}
 use native.Mathlib.Nat.{zero-lt-suc, div-add-mod'}
 use native.Mathlib.Omega.{arith}
 use lib.Dec.{T, leb}
-use Rattle.answers.specs.Said.{Said, _when_, judged, onValue, judged-onValue}
-use Rattle.answers.specs.Faults.{_if_, FaultsDecide, faults-decide}
+use Rattle.answers.specs.Said.{Said, refused, _when_, judged}
+use Rattle.answers.specs.Faults.{_if_, FaultsDecide, faults-decide, judged-refuses, finds-le}
 use Rattle.answers.specs.Answers.{numberSays, number-says-injective}
 use Rattle.answers.specs.declared.Number.{Number}
 use Rattle.bits.specs.Range.{least}
@@ -22,9 +22,9 @@ pageSize = 4096
 unfoldable pub pageUp : ℕ → Said ℕ
 pageUp x = alignedUp 64 x pageSize
 
--- refused wherever rounding up is
-unfoldable pub pages : ℕ → Said ℕ
-pages x = onValue (λ end. end / pageSize) (pageUp x)
+-- how many pages x bytes take; a page that is only begun counts
+unfoldable pub pages : ℕ → ℕ
+pages x = (x + (pageSize - 1)) / pageSize
 
 unfoldable pub pageOffset : ℕ → ℕ
 pageOffset x = x % pageSize
@@ -34,8 +34,8 @@ pageOffset x = x % pageSize
 abbrev pub PageAlignUpSays : ℕ → Number → Type 0
 PageAlignUpSays x r = numberSays r ≡ pageUp x
 
-abbrev pub RoundToPagesSays : ℕ → Number → Type 0
-RoundToPagesSays x r = numberSays r ≡ pages x
+abbrev pub RoundToPagesSays : ℕ → ℕ → Type 0
+RoundToPagesSays x r = r ≡ pages x
 
 abbrev pub PageOffsetSays : ℕ → ℕ → Type 0
 PageOffsetSays x r = r ≡ pageOffset x
@@ -43,8 +43,8 @@ PageOffsetSays x r = r ≡ pageOffset x
 pub page-align-up-one-answer : (x : ℕ) (r s : Number) → PageAlignUpSays x r → PageAlignUpSays x s → r ≡ s
 page-align-up-one-answer x r s p q = number-says-injective r s (p ∙ sym q)
 
-pub round-to-pages-one-answer : (x : ℕ) (r s : Number) → RoundToPagesSays x r → RoundToPagesSays x s → r ≡ s
-round-to-pages-one-answer x r s p q = number-says-injective r s (p ∙ sym q)
+pub round-to-pages-one-answer : (x r s : ℕ) → RoundToPagesSays x r → RoundToPagesSays x s → r ≡ s
+round-to-pages-one-answer x r s p q = p ∙ sym q
 
 pub page-offset-one-answer : (x r s : ℕ) → PageOffsetSays x r → PageOffsetSays x s → r ≡ s
 page-offset-one-answer x r s p q = p ∙ sym q
@@ -65,20 +65,41 @@ finds-no-page x = finds-none-fits 64 x pageSize (omega arith) page-pos
 pub page-align-up-faults : (x : ℕ) → FaultsDecide (pageUp x) (up pageSize x) ((9 if NoneFits 64 x pageSize) ∷ [])
 page-align-up-faults x = rw (page-up-judged x) (faults-decide _ _ (up pageSize x) (omega arith) (refl, finds-no-page x, λ _. tt))
 
-pub round-to-pages-faults : (x : ℕ) → FaultsDecide (pages x) (up pageSize x / pageSize) ((9 if NoneFits 64 x pageSize) ∷ [])
+-- k is the least number with 4,096 times k at or above x
+pub record LeastCount (x k : ℕ) : Type 0 where
+  pub at-or-above : x ≤ pageSize * k
+  pub least-such : (j : ℕ) → x ≤ pageSize * j → k ≤ j
+
+pub pages-least : (x k : ℕ) → (pages x ≡ k) ↔ LeastCount x k
 unfolding pages
-round-to-pages-faults x =
-    rw (page-up-judged x, judged-onValue (λ (end : ℕ). end / pageSize) ((9 when leb (2 ^ 64) (up pageSize x)) ∷ []) (up pageSize x))
-    (faults-decide _ _ (up pageSize x / pageSize) (omega arith) (refl, finds-no-page x, λ _. tt))
+pages-least x k = (
+  λ e. record { at-or-above = omega (arith, e); least-such = λ j h. omega (arith, e) },
+  λ l. omega (arith, l .at-or-above, l .least-such (pages x) (omega arith)),
+)
 
--- the count is the least number of pages that holds x bytes
-pub pages-hold : (x : ℕ) → x ≤ up pageSize x / pageSize * pageSize
-unfolding up down
-pages-hold x = omega arith
+-- the first page boundary that is not below x stands behind so many pages
+pub pages-end : (x : ℕ) → up pageSize x ≡ pages x * pageSize
+unfolding up down pages
+pages-end x = refl
 
-pub pages-least : (x k : ℕ) → x ≤ k * pageSize → up pageSize x / pageSize ≤ k
-unfolding up down
-pages-least x k h = omega arith
+-- the last 64-bit value, and that none has more pages
+pub last-page : pages (2 ^ 64 - 1) ≡ 4503599627370496
+unfolding pages
+last-page = refl
+
+pub pages-fit : (x : ℕ) → x < 2 ^ 64 → pages x ≤ 4503599627370496
+unfolding pages
+pages-fit x h = omega arith
+
+-- rounding up is refused exactly where the last page is begun; the count has that page too
+pub last-page-counts : (x : ℕ) → x < 2 ^ 64 → (pageUp x ≡ refused 9) ↔ (pages x ≡ 4503599627370496)
+last-page-counts x h =
+    let end = up pageSize x in
+    let refuses = judged-refuses ((9 when leb (2 ^ 64) end) ∷ []) ((9 if 2 ^ 64 ≤ end) ∷ []) end 9 (refl, finds-le (2 ^ 64) end, λ _. tt) in
+    rw (page-up-judged x) (
+      λ said. ⊎-elim (λ past. omega (arith, past .1, pages-end x, pages-fit x h)) (λ none. absurd (none .1)) (refuses .0 said),
+      λ last. refuses .1 (inl (refl, omega (arith, last, pages-end x))),
+    )
 
 -- the offset is what is left above the page boundary that is not above x
 pub page-offset-rest : (x : ℕ) → down pageSize x + pageOffset x ≡ x

@@ -12,15 +12,16 @@ pub fn page_align_up(x: u64) -> Number
     align_up(x, PAGE_SIZE)
 }
 
-// How many pages x bytes take; refused with 9 wherever page_align_up is.
-pub fn round_to_pages(x: u64) -> Number
+// How many pages x bytes take; a page that is only begun counts. Never refused: the count fits 64
+// bits also where the page's end does not.
+pub fn round_to_pages(x: u64) -> u64
     ensures { λ r. ⌜ RoundToPagesSays x r ⌝ }
 {
-    let up = page_align_up(x);
-    let Number::Is(end) = up else {
-        return up;
-    };
-    Number::Is(end / PAGE_SIZE)
+    let whole = x / PAGE_SIZE;
+    if page_offset(x) == 0 {
+        return whole;
+    }
+    whole + 1
 }
 
 // How far x lies into its page. Never refused.

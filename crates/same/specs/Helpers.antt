@@ -12,7 +12,7 @@ use lib.Bits.{bitAnd, and-high, and-mask}
 use lib.Dec.{leb, ltb, eqb, leb→le, le→leb, ltb→lt, lt→ltb}
 use lib.Pow.{pow-pos, pow-lt, shr-mod}
 use borrow.Author.Tests.{leb-true, leb-false, ltb-true, ltb-false, lt-leb, le-ltb, lt-ltb}
-use Rattle.answers.specs.Said.{Said, value, refused, Check, _when_, judged, onValue, judged-found, judged-passed, judged-next}
+use Rattle.answers.specs.Said.{Said, value, refused, Check, _when_, judged, judged-found, judged-passed, judged-next}
 use Rattle.answers.specs.Answers.{numberSays, narrowNumberSays, truthSays}
 use Rattle.answers.specs.declared.Number.{Number}
 use Rattle.answers.specs.declared.NarrowNumber.{NarrowNumber}
@@ -24,9 +24,9 @@ use Rattle.rounding.specs.Powers.{PowerOfTwo, isPower, power-found, power-expon
 use Rattle.rounding.specs.Multiples.{down, up, alignedUp, alignedDown, aligned}
 use Rattle.rounding.specs.Narrow as Narrow
 use Rattle.rounding.specs.Wide as Wide
-use Rattle.rounding.specs.Pages.{pageUp, pages, pageOffset, PageAlignUpSays, RoundToPagesSays, PageOffsetSays}
+use Rattle.rounding.specs.Pages.{pageUp, pages, pageOffset, PageAlignUpSays, RoundToPagesSays, PageOffsetSays, page-align-up-faults, pages-end}
 use Rattle.spans.specs.Overlap.{meet, overlaps, OverlapSays}
-use Rattle.source.specs.Machine.{Run, gives, _&_}
+use Rattle.source.specs.Machine.{Run, gives, stops, _&_}
 use Rattle.source.specs.Util.{added, !, align-up, align-down, is-aligned, page-align-up, round-to-pages, page-offset, overlap, BIT, BIT-MASK}
 use Rattle.same.specs.Whenever.{Whenever, then, so, anyhow, tested, sum-then, difference-then, one-then}
 use Rattle.same.specs.Answering.{Answers, surely, answers-then, answers-tested, sum-answers, difference-answers, one-answers}
@@ -139,26 +139,38 @@ is-aligned-64-same v a held r outcome = is-aligned-same 64 a held v (truthSays r
 page-power : PowerOfTwo 4096
 page-power = (12, refl)
 
-pub page-align-up-same : (x : ℕ) (r : Number) → PageAlignUpSays x r → Whenever (page-align-up x) (λ end. numberSays r ≡ value end)
+page-up-same : (x : ℕ) → Whenever (page-align-up x) (λ end. pageUp x ≡ value end)
 unfolding page-align-up pageUp
-page-align-up-same x r outcome = so (align-up 64 x 4096) _ _ (align-up-same 64 4096 (omega arith) x (numberSays r) outcome)
+page-up-same x = so (align-up 64 x 4096) _ _ (align-up-same 64 4096 (omega arith) x (pageUp x) refl)
     (λ end. ⊎-elim (λ departs. absurd (departs .0 page-power)) (λ said. said))
+
+pub page-align-up-same : (x : ℕ) (r : Number) → PageAlignUpSays x r → Whenever (page-align-up x) (λ end. numberSays r ≡ value end)
+page-align-up-same x r outcome = rw outcome (page-up-same x)
 
 pub page-align-up-is : (x : ℕ) (r : Number) → PageAlignUpSays x r → x + 4095 < 2 ^ 64 → (end : ℕ) × (page-align-up x ≡ gives end) × (numberSays r ≡ value end)
 unfolding page-align-up pageUp
 page-align-up-is x r outcome fits = align-up-is 64 4096 (omega arith) x (numberSays r) outcome page-power fits
 
-pub round-to-pages-same : (x : ℕ) (r : Number) → RoundToPagesSays x r → Whenever (round-to-pages x) (λ n. numberSays r ≡ value n)
-unfolding round-to-pages pages page-align-up pageUp onValue
-round-to-pages-same x r outcome = rw outcome (then (align-up 64 x 4096) _ _ (so (align-up 64 x 4096) _ _ (align-up-same 64 4096 (omega arith) x (pageUp x) refl)
-    (λ end. ⊎-elim (λ departs. absurd (departs .0 page-power)) (λ said. ap (onValue (λ (n : ℕ). n / 4096)) said))))
+-- where an end is given, it is as many pages up as we count
+counted : (x end : ℕ) → pageUp x ≡ value end → pages x ≡ end / 4096
+counted x end said = omega (arith, page-align-up-faults x .accepts end .0 said .1, pages-end x)
 
-pub round-to-pages-is : (x : ℕ) (r : Number) → RoundToPagesSays x r → x + 4095 < 2 ^ 64 → (n : ℕ) × (round-to-pages x ≡ gives n) × (numberSays r ≡ value n)
+pub round-to-pages-same : (x r : ℕ) → RoundToPagesSays x r → Whenever (round-to-pages x) (λ n. r ≡ n)
+unfolding round-to-pages
+round-to-pages-same x r outcome = rw outcome (then (page-align-up x) _ _ (so (page-align-up x) _ _ (page-up-same x) (counted x)))
+
+pub round-to-pages-is : (x r : ℕ) → RoundToPagesSays x r → x + 4095 < 2 ^ 64 → round-to-pages x ≡ gives r
 unfolding round-to-pages page-align-up
 round-to-pages-is x r outcome fits =
-    surely (round-to-pages x) _
-    (answers-then (align-up 64 x 4096) _ (align-up-answers 64 4096 (omega arith) x (numberSays r) (omega arith) fits) (anyhow (align-up 64 x 4096) _ (λ _. tt)))
-    (round-to-pages-same x r outcome)
+    let end = align-up 64 x 4096 in
+    let answers = answers-then end _ (align-up-answers 64 4096 (omega arith) x (pageUp x) (omega arith) fits) (anyhow end _ (λ _. tt)) in
+    let counts = surely (round-to-pages x) _ answers (round-to-pages-same x r outcome) in
+    counts .1 ∙ ap gives (sym (counts .2))
+
+-- where the last page is begun the commit's sum overflows, so that there is nothing to depart from
+pub round-to-pages-over : (x : ℕ) → 2 ^ 64 ≤ x + 4095 → round-to-pages x ≡ stops
+unfolding round-to-pages page-align-up align-up
+round-to-pages-over x past = rw (le-ltb (x + 4095) (2 ^ 64) past, added)
 
 pub page-offset-same : (x : ℕ) (r : ℕ) → PageOffsetSays x r → page-offset x ≡ gives r
 unfolding page-offset pageOffset
