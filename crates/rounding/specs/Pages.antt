@@ -87,18 +87,18 @@ pub last-page : pages (2 ^ 64 - 1) ≡ 4503599627370496
 unfolding pages
 last-page = refl
 
-pub pages-fit : (x : ℕ) → x < 2 ^ 64 → pages x ≤ 4503599627370496
+pub pages-fit : (x : ℕ) → x < 2 ^ 64 → pages x ≤ pages (2 ^ 64 - 1)
 unfolding pages
 pages-fit x h = omega arith
 
 -- rounding up is refused exactly where the last page is begun; the count has that page too
-pub last-page-counts : (x : ℕ) → x < 2 ^ 64 → (pageUp x ≡ refused 9) ↔ (pages x ≡ 4503599627370496)
+pub last-page-counts : (x : ℕ) → x < 2 ^ 64 → (pageUp x ≡ refused 9) ↔ (pages x ≡ pages (2 ^ 64 - 1))
 last-page-counts x h =
     let end = up pageSize x in
     let refuses = judged-refuses ((9 when leb (2 ^ 64) end) ∷ []) ((9 if 2 ^ 64 ≤ end) ∷ []) end 9 (refl, finds-le (2 ^ 64) end, λ _. tt) in
     rw (page-up-judged x) (
-      λ said. ⊎-elim (λ past. omega (arith, past .1, pages-end x, pages-fit x h)) (λ none. absurd (none .1)) (refuses .0 said),
-      λ last. refuses .1 (inl (refl, omega (arith, last, pages-end x))),
+      λ said. ⊎-elim (λ past. omega (arith, past .1, pages-end x, pages-fit x h, last-page)) (λ none. absurd (none .1)) (refuses .0 said),
+      λ last. refuses .1 (inl (refl, omega (arith, last, pages-end x, last-page))),
     )
 
 -- the offset is what is left above the page boundary that is not above x
