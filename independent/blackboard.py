@@ -1,7 +1,7 @@
 #!/usr/bin/env python3
 """The blackboard's examples once more, worked out from the papers' sentences alone: document 01's, for the third level
-those of request One, for jobs those of request Three, for what a map stores those of request Four, and for images those
-of request Five.
+those of request One, for jobs those of request Three, for what a map stores those of request Four, for images those of
+request Five, and for lists of runs those of request Seven.
 
 Nothing here is shared with the crates: no code, no table, no list of examples. Where the crates use
 masks, this counts: a power of two is found by trying exponents, a multiple by dividing whole numbers
@@ -275,6 +275,37 @@ def for_c(buffer, call):
         return -refusal.args[0]
 
 
+# what request Seven says: the free slots of a tree, or its used ones, as runs of a start and a length, each as long as it
+# can be. A run begins where the slot on its left is missing, and ends where the one on its right is
+
+
+def ends(slots):
+    """The first and the last slot of each run."""
+    firsts = sorted(slot for slot in slots if slot - 1 not in slots)
+    lasts = sorted(slot for slot in slots if slot + 1 not in slots)
+    return list(zip(firsts, lasts))
+
+
+def unused(m):
+    return set(range(m.size)) - m.used
+
+
+def list_runs(m, slots, buffer):
+    m.sound()
+    refuse(11, len(buffer) < 1024)
+    numbers = [number for first, last in ends(slots) for number in (first, last - first + 1)]
+    buffer[: len(numbers)] = numbers
+    return len(numbers) // 2
+
+
+def longest_free(m):
+    """As a list of one run: of the longest ones the lowest."""
+    m.sound()
+    refuse(7, unused(m) == set())
+    length = max(last - first + 1 for first, last in ends(unused(m)))
+    return [min(first for first, last in ends(unused(m)) if last - first + 1 == length), length]
+
+
 # ---- the lines
 
 
@@ -322,9 +353,7 @@ def cleared(start, end):
 
 def runs(used):
     """The first and the last slot of each run, as a list of words."""
-    firsts = sorted(slot for slot in used if slot - 1 not in used)
-    lasts = sorted(slot for slot in used if slot + 1 not in used)
-    return "".join(f" {first}..{last}" for first, last in zip(firsts, lasts)) or " none"
+    return "".join(f" {first}..{last}" for first, last in ends(used)) or " none"
 
 
 def in_words(told):
@@ -932,3 +961,81 @@ for name, buffer, length in (
     c_free(name, buffer, 0, 0, length)
     c_free(name, buffer, 0, 1, length)
     c_used(name, buffer, length)
+
+# lists of runs. A buffer has two numbers more than the longest list, and is lent up to some number
+NO_NUMBER = 65535
+
+
+def goes_on(found, k):
+    """Run k has the length of run k - 1, and comes after it by the step that led to that one."""
+    if not 2 <= k < len(found):
+        return False
+    (first, _), (second, length), (third, same) = found[k - 2 : k + 1]
+    return (third - second, same) == (second - first, length)
+
+
+def in_short(numbers):
+    """Start and length of each run; dots for those in the midst of equal steps."""
+    found = list(zip(numbers[::2], numbers[1::2]))
+    said = [".." if goes_on(found, k) and goes_on(found, k + 1) else f"{start}+{n}" for k, (start, n) in enumerate(found)]
+    return " ".join(words for words, _ in itertools.groupby(said)) or "none"
+
+
+def lists(name, which, length):
+    m, written = MAPS[name], []
+
+    def call(part):
+        n = list_runs(m, unused(m) if which == "free" else m.used, part)
+        written.extend(part[: 2 * n])
+        return f"{n}, list {in_short(written)}"
+
+    said, after = on_part(1026 * [NO_NUMBER], length, call)
+    rest = after[len(written) :]
+    print(f"{name}: {which} runs, lent {length} numbers: {said}, then {rest[0]}, unchanged {rest.count(NO_NUMBER)}")
+
+
+def both(name, length):
+    lists(name, "free", length)
+    lists(name, "used", length)
+
+
+def gaps(name):
+    both(name, 1024)
+    line(f"{name}: longest free run", lambda: in_short(longest_free(MAPS[name])))
+
+
+EVEN, ODD, WITHOUT_FIRST = "tree with the even slots", "tree with the odd slots", "tree without slot 0"
+GAP_ACROSS, ONE_WORD = "tree without slots 60 to 67", "tree with slots 64 to 127"
+TIE, LATER = "tree without slots 100 to 199, 400 to 499", "tree without slots 100 to 199, 400 to 500"
+SEVEN = "tree with seven gaps"
+
+
+def all_but(*gaps):
+    """The tree whose free slots are these, first and last of each gap."""
+    return Map(1024, set(range(1024)).difference(*(range(first, last + 1) for first, last in gaps)))
+
+
+MAPS |= {
+    EVEN: Map(1024, range(0, 1024, 2)),
+    ODD: Map(1024, range(1, 1024, 2)),
+    WITHOUT_FIRST: all_but((0, 0)),
+    GAP_ACROSS: all_but((60, 67)),
+    ONE_WORD: Map(1024, range(64, 128)),
+    TIE: all_but((100, 199), (400, 499)),
+    LATER: all_but((100, 199), (400, 500)),
+    SEVEN: all_but((150, 175), (260, 319), (410, 519), (592, 607), (736, 819), (922, 959), (1012, 1023)),
+}
+
+# no slot, all slots, every other slot, one slot; at the edges of words; two gaps that are equally long, and two that are not
+for name in (BARE, PACKED, EVEN, ODD, ONE, LAST, WITHOUT_FIRST, MOST, ACROSS, GAP_ACROSS, ONE_WORD, WORDS_FULL, TIE, LATER):
+    gaps(name)
+for name, length in ((BARE, 0), (PACKED, 1023), (EVEN, 1023), (EVEN, 1026)):
+    both(name, length)
+for name in (BAD, HIDDEN, UNMARKED, OVERMARKED, COUNT_HIGH, COUNT_LOW):
+    gaps(name)
+    both(name, 1023)
+
+# a group as large as all gaps together, one that is larger than each of them by a slot, and one that fits
+gaps(SEVEN)
+for n in (346, 111, 110):
+    takes(SEVEN, n, 0)

@@ -77,8 +77,8 @@ def answer(used, tag, body):
     return "skip"
 
 
-def lines(record):
-    used = bytearray(SLOTS)
+def lines(record, used):
+    """The lines of the report. The record is carried out on this map."""
     at = 0
     while at < len(record):
         if len(record) - at < 3:
@@ -97,10 +97,12 @@ def lines(record):
     yield f"used {sum(used)}"
 
 
-def report(record: bytes) -> bytes:
+def report(record: bytes, lines_of_map=lambda used: ()) -> bytes:
+    """The report, and after it the lines that are asked for of the map that is left."""
     if len(record) > LONGEST:
         return b"big\n"
-    return "".join(f"{line}\n" for line in lines(record)).encode()
+    used = bytearray(SLOTS)
+    return "".join(f"{line}\n" for line in [*lines(record, used), *lines_of_map(used)]).encode()
 
 
 if __name__ == "__main__":

@@ -20,13 +20,18 @@ number orig_word_frees(number *words, const number *starts, number count, number
 int slotmap_take(unsigned char *image, number length, number n, number a);
 int slotmap_free(unsigned char *image, number length, number start, number n);
 int slotmap_used(const unsigned char *image, number length);
+number gaps_free(const number *words, unsigned short *list, number length, number times);
+number gaps_used(const number *words, unsigned short *list, number length, number times);
+void gaps_longest(const number *words, number *found, number times);
 
 struct time { long seconds, nanoseconds; };
 int clock_gettime(int clock, struct time *);
 long read(int, void *, number);
 long write(int, const void *, number);
 
-// `count` takes of n slots at a multiple of 2^a, or frees of n slots from so many starts, on a map of `size` words.
+// `count` takes of n slots at a multiple of 2^a, or frees of n slots from so many starts, on a map of `size` words: what is
+// left are its words, and how many slots are used. Or so many listings of a map of sixteen words in a buffer of `size`,
+// where 256 words are 1,024 numbers of 16 bits: what is left is the buffer, and how many runs there are.
 struct call { number way, n, a, count, rounds, size, words[256], starts[24]; };
 struct left { number used, nanoseconds, words[256]; };
 
@@ -61,7 +66,14 @@ static number image_frees(number *words, const number *starts, number count, num
     return out_of_image(words);
 }
 
+// The longest free run is two numbers of the buffer, and no number beside them.
+static number longest(const number *words, number *found, number times) {
+    gaps_longest(words, found, times);
+    return 0;
+}
+
 __attribute__((noinline)) void carry_out(struct call *call, struct left *left) {
+    unsigned short *list = (unsigned short *)left->words;
     switch (call->way) {
     case 0: left->used = slots_takes(left->words, call->n, call->a, call->count); break;
     case 1: left->used = slots_takes_in_place(left->words, call->n, call->a, call->count); break;
@@ -80,7 +92,10 @@ __attribute__((noinline)) void carry_out(struct call *call, struct left *left) {
     case 14: left->used = image_takes(left->words, call->n, call->a, call->count); break;
     case 15: left->used = orig_takes(left->words, call->n, call->a, call->count); break;
     case 16: left->used = image_frees(left->words, call->starts, call->count, call->n); break;
-    default: left->used = orig_frees(left->words, call->starts, call->count, call->n);
+    case 17: left->used = orig_frees(left->words, call->starts, call->count, call->n); break;
+    case 18: left->used = gaps_free(call->words, list, 1024, call->count); break;
+    case 19: left->used = gaps_used(call->words, list, 1024, call->count); break;
+    default: left->used = longest(call->words, left->words, call->count);
     }
 }
 

@@ -14,6 +14,9 @@ use Rattle.answers.specs.declared.Answer.{Answer}
 use Rattle.answers.specs.declared.Answer.the-variants.{At as Answer·At, Done as Answer·Done, Refused as Answer·Refused}
 use Rattle.answers.specs.declared.NextFree.{NextFree}
 use Rattle.answers.specs.declared.NextFree.the-variants.{At as NextFree·At, Refused as NextFree·Refused}
+use Rattle.answers.specs.declared.Run.{Run}
+use Rattle.answers.specs.declared.LongestRun.{LongestRun}
+use Rattle.answers.specs.declared.LongestRun.the-variants.{Is as LongestRun·Is, Refused as LongestRun·Refused}
 use Rattle.answers.specs.declared.Truth.{Truth}
 use Rattle.answers.specs.declared.Truth.the-variants.{Is as Truth·Is, Refused as Truth·Refused}
 
@@ -42,6 +45,14 @@ answerSays (Answer·Refused r) = refused (numberOf r)
 abbrev pub nextFreeSays : NextFree → Said ℕ
 nextFreeSays (NextFree·At n) = value n
 nextFreeSays (NextFree·Refused r) = refused (numberOf r)
+
+-- the run of so many slots from a start on
+abbrev pub run : ℕ → ℕ → Run
+run start length = record { start = start; length = length }
+
+abbrev pub longestRunSays : LongestRun → Said Run
+longestRunSays (LongestRun·Is r) = value r
+longestRunSays (LongestRun·Refused r) = refused (numberOf r)
 
 -- what is left where a call was judged so: on a refusal what there was
 abbrev pub leftBy : {M : Type 0} → Answer → M → M → M
@@ -82,6 +93,10 @@ next-free-back : (r : NextFree) → saying NextFree·At NextFree·Refused (nextF
 next-free-back (NextFree·At n) = refl
 next-free-back (NextFree·Refused r) = ap NextFree·Refused (named-number r)
 
+longest-run-back : (r : LongestRun) → saying LongestRun·Is LongestRun·Refused (longestRunSays r) ≡ r
+longest-run-back (LongestRun·Is r) = refl
+longest-run-back (LongestRun·Refused r) = ap LongestRun·Refused (named-number r)
+
 pub number-says-injective : (r s : Number) → numberSays r ≡ numberSays s → r ≡ s
 number-says-injective = undone-injective numberSays (saying Number·Is Number·Refused) number-back
 
@@ -96,6 +111,9 @@ answer-says-injective = undone-injective answerSays (saying replying Answer·Ref
 
 pub next-free-says-injective : (r s : NextFree) → nextFreeSays r ≡ nextFreeSays s → r ≡ s
 next-free-says-injective = undone-injective nextFreeSays (saying NextFree·At NextFree·Refused) next-free-back
+
+pub longest-run-says-injective : (r s : LongestRun) → longestRunSays r ≡ longestRunSays s → r ≡ s
+longest-run-says-injective = undone-injective longestRunSays (saying LongestRun·Is LongestRun·Refused) longest-run-back
 
 -- and so are two that say where a take starts
 startOf : Reply → ℕ

@@ -24,7 +24,7 @@ pub enum Refusal {
     NoMultipleFits,
     // 10: an end lies before its start.
     EndBeforeStart,
-    // 11: the report buffer is too short.
+    // 11: the buffer for a report, or for a list of runs, is too short.
     ReportTooShort,
     // 12: the record is too long.
     RecordTooLong,
@@ -81,5 +81,17 @@ pub enum Answer {
 // The next free slot, or the refusal.
 pub enum NextFree {
     At(usize),
+    Refused(Refusal),
+}
+
+// So many slots side by side, from a start on.
+pub struct Run {
+    pub start: usize,
+    pub length: usize,
+}
+
+// The longest run, or the refusal.
+pub enum LongestRun {
+    Is(Run),
     Refused(Refusal),
 }

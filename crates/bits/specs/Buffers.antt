@@ -2,8 +2,9 @@
 use mathlib.Core.Path.{_≡_, sym, ap, _∙_}
 use mathlib.Core.List.{List, _∷_, [], _++_, append-assoc, append-nil}
 use Prim.Native.Nat.{ℕ, suc, _+_, _/_, _%_, _^_, _≤_, _<_}
+use native.Mathlib.Nat.{add-zero}
 use native.Mathlib.Omega.{arith}
-use lib.ListN.{length, take, drop, set, length-append, length-drop, drop-of-length-le}
+use lib.ListN.{length, take, drop, set, length-append, length-drop, drop-of-length-le, take-append-drop}
 use lib.Seq.{length-take-le, take-at, drop-at, drop-drop, set-split}
 use Rattle.bits.specs.Bytes.{toBytes, toBytes-length, to-low, to-parts}
 
@@ -80,6 +81,11 @@ module _ (buffer : List ℕ) (offset : ℕ) where
       ap (λ (m : ℕ). putAt (putAt buffer offset (toBytes j (n % 256 ^ j))) (offset + m) (toBytes k (n / 256 ^ j))) (sym long)
       ∙ put-put buffer offset (toBytes j (n % 256 ^ j)) (toBytes k (n / 256 ^ j)) (omega (arith, inside, long))
       ∙ ap (putAt buffer offset) (ap (λ (low : List ℕ). low ++ toBytes k (n / 256 ^ j)) (to-low j n) ∙ sym (to-parts j k n))
+
+-- no text leaves the buffer as it is
+pub put-none : (buffer : List ℕ) (offset : ℕ) → putAt buffer offset [] ≡ buffer
+unfolding putAt
+put-none buffer offset = ap (λ (n : ℕ). take offset buffer ++ drop n buffer) (add-zero offset) ∙ take-append-drop offset buffer
 
 -- a text as long as the buffer is all that is left
 pub put-all : (buffer text : List ℕ) → length text ≡ length buffer → putAt buffer 0 text ≡ text

@@ -229,6 +229,16 @@ count-most test s (suc n) = omega (arith, bit-most (test s), count-most test (su
     bit-most true = omega arith
     bit-most false = omega arith
 
+-- those that pass and those that do not are all
+pub count-not : (test : ℕ → Bool) (s n : ℕ) → count test s n + count (λ i. not (test i)) s n ≡ n
+unfolding count
+count-not test s zero = refl
+count-not test s (suc n) = let rest = count-not test (suc s) n in omega (arith, rest, either-bit (test s))
+  where
+    either-bit : (b : Bool) → bit b + bit (not b) ≡ 1
+    either-bit true = refl
+    either-bit false = refl
+
 -- the numbers from s on are those from 0 on, each s more
 pub count-moved : (test : ℕ → Bool) (s n : ℕ) → count test s n ≡ count (λ i. test (s + i)) 0 n
 count-moved test zero n = count-agree test (λ i. test (0 + i)) 0 n (λ i l lt. ap test (sym (zero-add i)))

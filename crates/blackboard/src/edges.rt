@@ -167,7 +167,7 @@ pub fn word_questions() {
 
 // ---- the tree map
 
-fn tree_with(start: usize, n: usize) -> Tree {
+pub fn tree_with(start: usize, n: usize) -> Tree {
     Tree::new_empty().set(start, n, true).map
 }
 

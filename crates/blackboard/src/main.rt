@@ -4,6 +4,7 @@ mod asked;
 mod edges;
 mod images;
 mod lesson;
+mod lists;
 mod names;
 mod runs;
 mod show;
@@ -67,6 +68,12 @@ fn main() {
     images::record();
     images::refused_calls();
     images::wrong_images();
+    lists::of_maps();
+    lists::at_words();
+    lists::two_gaps();
+    lists::buffers();
+    lists::unsound_trees();
+    lists::seven_gaps();
 }
 
 // The lines of "Maps on the blackboard" that have no star.

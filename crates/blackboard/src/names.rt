@@ -143,6 +143,22 @@ pub const IMAGE_WITH_SLOT_0_BYTE_0_AS_33: u8 = 68;
 
 pub const IMAGE_WITH_SLOT_0_UNDER_NO_SUMMARY_BYTE_0_AS_33: u8 = 69;
 
+pub const TREE_WITH_EVEN_SLOTS: u8 = 70;
+
+pub const TREE_WITH_ODD_SLOTS: u8 = 71;
+
+pub const TREE_WITHOUT_SLOT_0: u8 = 72;
+
+pub const TREE_WITHOUT_SLOTS_60_TO_67: u8 = 73;
+
+pub const TREE_WITH_SLOTS_64_TO_127: u8 = 74;
+
+pub const TREE_WITHOUT_SLOTS_100_TO_199_400_TO_499: u8 = 75;
+
+pub const TREE_WITHOUT_SLOTS_100_TO_199_400_TO_500: u8 = 76;
+
+pub const TREE_WITH_SEVEN_GAPS: u8 = 77;
+
 // Prints the words of a number, which are that line of these; one that has none prints nothing.
 pub fn put(k: u8) {
     show::line(
@@ -216,6 +232,14 @@ image with slot 0, fields exchanged
 image with slot 0 under no summary
 image with slot 0, byte 0 as 33
 image with slot 0 under no summary, byte 0 as 33
+tree with the even slots
+tree with the odd slots
+tree without slot 0
+tree without slots 60 to 67
+tree with slots 64 to 127
+tree without slots 100 to 199, 400 to 499
+tree without slots 100 to 199, 400 to 500
+tree with seven gaps
 ",
         k,
     );

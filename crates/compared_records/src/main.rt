@@ -1,8 +1,11 @@
 // Many records in one run, for comparisons: each record on standard input has its length before it,
-// in four bytes, low byte first, and what the program slotmap would write for it goes to standard
-// output in the same way. It ends with its input, or where a record is longer than it can hold.
+// in four bytes, low byte first, and what the program slotgaps would write for it, which begins with
+// what slotmap would, goes to standard output in the same way. It ends with its input, or where a record
+// is longer than it can hold.
+use answers::Number;
 use libc::STDIN_FILENO;
 use libc::STDOUT_FILENO;
+use tree::Tree;
 ghost use Prim.Native.Nat.{_≤_, _<_};
 ghost use lib.ListN.{length};
 
@@ -14,7 +17,6 @@ struct Next {
 
 fn main() {
     let mut record = io::large_buffer();
-    let mut text = [0u8; 54624];
     // A loop has to end, and no run uses up so many turns.
     let mut turns = u64::MAX;
     while turns > 0 {
@@ -24,11 +26,36 @@ fn main() {
             return;
         }
         let count = next.count;
-        let length = runner::output(&record[..count], &mut text);
-        if !write_next(&text[..length]) {
+        if !served(&record[..count]) {
             return;
         }
     }
+}
+
+// Writes what slotgaps writes for the record. Whether there is more to answer: not where the output has
+// ended.
+fn served(record: &[u8]) -> bool {
+    let mut report = [0u8; 54624];
+    let ran = runner::run_map(record, &mut report);
+    let map = ran.map;
+    let answer = ran.answer;
+    let Number::Is(length) = answer else {
+        return write_next(b"big\n", b"");
+    };
+    let end = length as usize;
+    write_with(&report[..end], map)
+}
+
+fn write_with(report: &[u8], map: Tree) -> bool
+    requires { ⌜ length (now report) ≤ 65536 ⌝ }
+{
+    let mut lines = [0u8; 20480];
+    let written = gap_report::write(map, &mut lines);
+    let Number::Is(length) = written else {
+        return false;
+    };
+    let end = length as usize;
+    write_next(report, &lines[..end])
 }
 
 fn read_next(record: &mut [u8]) -> Next
@@ -55,9 +82,13 @@ fn read_next(record: &mut [u8]) -> Next
     }
 }
 
-fn write_next(text: &[u8]) -> bool {
-    let head = bytes_of(text.len());
-    io::write_all(STDOUT_FILENO, &head) && io::write_all(STDOUT_FILENO, text)
+fn write_next(report: &[u8], lines: &[u8]) -> bool
+    requires { ⌜ (length (now report) ≤ 65536) × (length (now lines) ≤ 65536) ⌝ }
+{
+    let head = bytes_of(report.len() + lines.len());
+    io::write_all(STDOUT_FILENO, &head)
+        && io::write_all(STDOUT_FILENO, report)
+        && io::write_all(STDOUT_FILENO, lines)
 }
 
 fn number(head: [u8; 4]) -> usize {
@@ -70,9 +101,14 @@ fn wide(byte: u8) -> usize
     byte as usize
 }
 
-// A length of at most two bytes, in four.
+// A length of at most three bytes, in four.
 fn bytes_of(length: usize) -> [u8; 4] {
-    [low_byte(length), low_byte(length / 256), 0, 0]
+    [
+        low_byte(length),
+        low_byte(length / 256),
+        low_byte(length / 65536),
+        0,
+    ]
 }
 
 fn low_byte(n: usize) -> u8 {

@@ -7,49 +7,33 @@ use native.Mathlib.Omega.{arith}
 use lib.IntN.{ℤ, negsuc}
 use lib.ListN.{length}
 use borrow.Author.Tests.{eq-eqb, ne-eqb, not-true, not-false}
-use Rattle.answers.specs.Said.{value, refused, judged, onValue, leaving, value≢refused, value-injective, refused-injective}
+use Rattle.answers.specs.Said.{value, refused, judged, onValue, leaving}
 use Rattle.answers.specs.Refusals.{numberOf}
 use Rattle.answers.specs.Answers.{Reply, at, ok, answerSays, numberSays}
 use Rattle.answers.specs.declared.Answer.{Answer}
 use Rattle.answers.specs.declared.Answer.the-variants.{At, Done, Refused}
 use Rattle.answers.specs.declared.Number.{Number}
-use Rattle.answers.specs.declared.Number.the-variants.{Is, Refused as Number·Refused}
+use Rattle.answers.specs.declared.Number.the-variants.{Is}
 use Rattle.answers.specs.declared.Refusal.{Refusal}
-use Rattle.bits.specs.Range.{count, count-most, either}
+use Rattle.bits.specs.Range.{count, count-most}
 use Rattle.slots.specs.Sets.{Slots, none}
-use Rattle.slots.specs.Calls.{Call, usedCall, takeCall, freeCall}
-use Rattle.slots.specs.Promises.{take-promise, used-promise, freeFaults, free-refused}
-use Rattle.slots.specs.View.{answered, answered-decided, changed-says, found-sound, found-unsound, accepted-sound}
+use Rattle.slots.specs.Calls.{Call, takeCall, freeCall}
+use Rattle.slots.specs.Promises.{take-promise, freeFaults, free-refused}
+use Rattle.slots.specs.View.{answered, answered-decided, changed-says, found-sound, accepted-sound}
 use Rattle.tree.specs.declared.Tree.{Tree}
 use Rattle.tree.specs.declared.Changed.{Changed}
 use Rattle.tree.specs.Layout.{ofSlots, slotOf, treeView}
 use Rattle.tree.specs.Contracts as Tree
+use Rattle.tree.specs.Demands.{counted-sound}
 use Rattle.image.specs.Image.{imageOf, isImage, heldIn, image-long}
 use Rattle.image.specs.ImageAnswers.{numbered, signed}
 use Rattle.image.specs.Contracts.{written, readOf, Asked, used, onBytes, callOf, answeredOn, told, onImage}
 use Rattle.image.specs.Inner.{Short, leftOn, LeftIn}
 use Rattle.image.specs.Demands.{no-image, a-count, a-change}
 
--- ---- the count tells whether the tree is sound
-
-module _ (t : Tree) (q : Number) (outcome : Tree.UsedSays t q) where
-  sound-said : treeView .isSound t ≡ true → numberSays q ≡ value (count (slotOf t) 0 1024)
-  sound-said e = outcome ∙ found-sound treeView t (usedCall 10 (slotOf t)) e ∙ used-promise 10 (slotOf t)
-
-  unsound-said : treeView .isSound t ≡ false → numberSays q ≡ refused 1
-  unsound-said e = outcome ∙ found-unsound treeView t (usedCall 10 (slotOf t)) e
-
-  pub refused-so : (why : Refusal) → q ≡ Number·Refused why → (treeView .isSound t ≡ false) × (numberOf why ≡ 1)
-  refused-so why is =
-      either (treeView .isSound t)
-      (λ yes. absurd (value≢refused _ _ (sym (sound-said yes) ∙ ap numberSays is)))
-      (λ no. (no, refused-injective (sym (ap numberSays is) ∙ unsound-said no)))
-
-  pub counted-so : (n : ℕ) → q ≡ Is n → (treeView .isSound t ≡ true) × (n < 2 ^ 31)
-  counted-so n is =
-      either (treeView .isSound t)
-      (λ yes. let same = value-injective (sym (ap numberSays is) ∙ sound-said yes) in let most = count-most (slotOf t) 0 1024 in (yes, omega (arith, same, most)))
-      (λ no. absurd (value≢refused _ _ (sym (ap numberSays is) ∙ unsound-said no)))
+-- a tree's count fits a signed number
+pub count-fits : (t : Tree) (q : Number) → Tree.UsedSays t q → (n : ℕ) → q ≡ Is n → n < 2 ^ 31
+count-fits t q outcome n is = let most = count-most (slotOf t) 0 1024 in omega (arith, counted-sound t q outcome n is .1, most)
 
 -- ---- reading and writing, by their tests
 

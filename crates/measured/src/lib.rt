@@ -1,9 +1,15 @@
 // What the measurement calls from outside: takes and frees one after the other on a map that is lent as
-// its words, a tree by value and in place, the third level and the word by value. Thin: a loop over the
-// calls of `tree`, of `in_place`, of `third` and of `word`.
+// its words, a tree by value and in place, the third level and the word by value; and listings of a
+// tree's runs. Thin: a loop over the calls of `tree`, of `in_place`, of `third`, of `word` and of `gaps`.
+use answers::LongestRun;
+use answers::Number;
 use third::Third;
 use tree::Tree;
 use word::Word;
+ghost use mathlib.Core.Path.{_≡_};
+ghost use mathlib.Core.Bool.{true, false};
+ghost use Rattle.answers.specs.Answers.{numberSays, longestRunSays};
+ghost use Rattle.measured.specs.Gaps.{ListsSays, LongestSays, countOf, numbersOf};
 ghost use Rattle.measured.specs.Series.{TakesSays, FreesSays, LeftInSays, ThirdTakesSays, ThirdFreesSays, LeftInThirdSays, WordTakesSays, WordFreesSays, LeftInWordSays};
 
 // So many takes of n slots at a multiple of 2^a; a take that is refused changes nothing. Answers how
@@ -147,4 +153,70 @@ fn left_in_word(words: &mut [u64; 1], word: Word) -> usize
     let left = [word.bits()];
     *words = left;
     rows::count(&left) as usize
+}
+
+// ---- the gaps of a tree
+
+// So many listings of the free runs, one after the other in the same buffer; one that is refused writes
+// nothing. Answers what the last one does, 0 where it is refused or where none is asked for. Never
+// refused.
+#[no_mangle]
+pub extern "C" fn gaps_free(words: &[u64; 16], list: &mut [u16], times: usize) -> usize
+    ensures { λ r. ⌜ ListsSays false (now (words .entry)) (now (list .entry)) times r (now (list .exit)) ⌝ }
+{
+    let tree = Tree::holding(*words);
+    let mut count = 0;
+    let mut left = times;
+    while left > 0 {
+        count = count_of(gaps::free_runs(tree, list));
+        left -= 1;
+    }
+    count
+}
+
+// The same of the used runs.
+#[no_mangle]
+pub extern "C" fn gaps_used(words: &[u64; 16], list: &mut [u16], times: usize) -> usize
+    ensures { λ r. ⌜ ListsSays true (now (words .entry)) (now (list .entry)) times r (now (list .exit)) ⌝ }
+{
+    let tree = Tree::holding(*words);
+    let mut count = 0;
+    let mut left = times;
+    while left > 0 {
+        count = count_of(gaps::used_runs(tree, list));
+        left -= 1;
+    }
+    count
+}
+
+// Asks so many times for the longest free run, and leaves its start and its length, both 0 where there
+// is none; where it is not asked for, what there was. Never refused.
+#[no_mangle]
+pub extern "C" fn gaps_longest(words: &[u64; 16], found: &mut [u64; 2], times: usize)
+    ensures { λ _. ⌜ LongestSays (now (words .entry)) (now (found .entry)) times (now (found .exit)) ⌝ }
+{
+    let tree = Tree::holding(*words);
+    let mut left = times;
+    while left > 0 {
+        *found = numbers_of(gaps::longest_free(tree));
+        left -= 1;
+    }
+}
+
+fn count_of(said: Number) -> usize
+    ensures { λ r. ⌜ r ≡ countOf (numberSays said) ⌝ }
+{
+    match said {
+        Number::Is(n) => n as usize,
+        Number::Refused(_) => 0,
+    }
+}
+
+fn numbers_of(said: LongestRun) -> [u64; 2]
+    ensures { λ r. ⌜ r ≡ numbersOf (longestRunSays said) ⌝ }
+{
+    match said {
+        LongestRun::Is(run) => [run.start as u64, run.length as u64],
+        LongestRun::Refused(_) => [0, 0],
+    }
 }

@@ -2,7 +2,7 @@
 -- that the one before left, as a series of demand 3; and so that the record of its accepted calls, walked backward, brings its tree back to the
 -- empty one. Rests on `Report` and on the tree's demands.
 use mathlib.Core.Path.{_≡_, refl, sym, ap, subst, _∙_}
-use mathlib.Core.Logic.{_↔_}
+use mathlib.Core.Logic.{_↔_, inl}
 use mathlib.Core.List.{List, [], _∷_, _++_}
 use Prim.Native.Nat.{ℕ, _+_, _≤_, _<_}
 use native.Mathlib.Omega.{arith}
@@ -11,7 +11,7 @@ use lib.ListN.{length, drop, length-append}
 use borrow.Author.Tests.{ltb-true, ltb-false}
 use Rattle.answers.specs.Said.{Said, value, refused, _when_, leaving-says, leaving-refused, leaving-value}
 use Rattle.answers.specs.Faults.{Fault, _if_, First, NoFault, Finds, judged-refuses, judged-accepts, finds-lt}
-use Rattle.answers.specs.Answers.{Reply, number-says-injective}
+use Rattle.answers.specs.Answers.{Reply, numberSays, number-says-injective}
 use Rattle.answers.specs.declared.Number.{Number}
 use Rattle.bits.specs.Range.{either}
 use Rattle.slots.specs.Sets.{none}
@@ -21,7 +21,7 @@ use Rattle.slots.specs.Series.{made, answersOf, lastOf, recordOf, beforeOf, Bac
 use Rattle.tree.specs.declared.Tree.{Tree}
 use Rattle.tree.specs.Layout.{treeView, slotOf, treeCalls}
 use Rattle.report.specs.Fields.{Field, call, skip, bad, cut, fields}
-use Rattle.report.specs.Report.{Line, said, skipped, stopped, short, used, carried, linesOf, emptyTree, reportOf, over, ran, RunSays, outputOf, output-big, output-report, OutputSays}
+use Rattle.report.specs.Report.{Line, said, skipped, stopped, short, used, carried, linesOf, leftBy, emptyTree, reportOf, leftOf, over, ran, RunSays, ranMap, RunMapSays, outputOf, output-big, output-report, OutputSays}
 use Rattle.report.specs.Limits.{report-fits}
 
 -- ---- refusals
@@ -54,6 +54,34 @@ module _ (bytes buffer : List ℕ) where
   pub run-one-answer : (r q : Number) (after other : List ℕ) → RunSays bytes buffer r after → RunSays bytes buffer q other → (r ≡ q) × (after ≡ other)
   run-one-answer r q after other p o = (number-says-injective r q (ap (λ x. x .0) (p ∙ sym o)), ap (λ x. x .1) (p ∙ sym o))
 
+  -- the report that is said to be there has room in its buffer
+  pub run-fits : (r : Number) (after : List ℕ) → RunSays bytes buffer r after → (n : ℕ) → numberSays r ≡ value n → n ≤ 54624
+  run-fits r after says n e =
+      let accepted = run-accepts n .0 (sym (ap (λ x. x .0) says) ∙ e) in
+      either (ltb 32768 (length bytes))
+      (λ long. absurd (accepted .0 12 (inl (refl, ltb-true 32768 (length bytes) long))))
+      (λ limit. omega (arith, accepted .1, report-fits bytes (ltb-false 32768 (length bytes) limit)))
+
+  -- with the map: what is said and written is the same, and the map is what the record leaves
+  module _ (r : Number) (map : Tree) (after : List ℕ) (says : RunMapSays bytes buffer r map after) where
+    pub run-map-runs : RunSays bytes buffer r after
+    unfolding ranMap
+    run-map-runs i = (says i .0, says i .1)
+
+    pub run-map-left : (n : ℕ) → numberSays r ≡ value n → map ≡ leftOf bytes
+    unfolding ranMap
+    run-map-left n e = ap (λ x. x .2) says ∙ leaving-value (λ _. leftOf bytes) emptyTree (ran bytes buffer .0) n (leaving-says (λ _. leftOf bytes) emptyTree (ran bytes buffer .0) ∙ sym (ap (λ x. x .0) says) ∙ e)
+
+    pub run-map-none : (k : ℕ) → numberSays r ≡ refused k → map ≡ emptyTree
+    unfolding ranMap
+    run-map-none k e = ap (λ x. x .2) says ∙ leaving-refused (λ _. leftOf bytes) emptyTree (ran bytes buffer .0) k (leaving-says (λ _. leftOf bytes) emptyTree (ran bytes buffer .0) ∙ sym (ap (λ x. x .0) says) ∙ e)
+
+  pub run-map-one-answer : (r q : Number) (map left : Tree) (after other : List ℕ) → RunMapSays bytes buffer r map after → RunMapSays bytes buffer q left other
+      → (r ≡ q) × (map ≡ left) × (after ≡ other)
+  run-map-one-answer r q map left after other p o =
+      let same = p ∙ sym o in
+      (number-says-injective r q (ap (λ x. x .0) same), ap (λ x. x .2) same, ap (λ x. x .1) same)
+
 -- what the program writes: one outcome, and it always fits
 module _ (bytes : List ℕ) where
   pub output-one-answer : (before : List ℕ) (r q : ℕ) (after other : List ℕ) → OutputSays bytes before r after → OutputSays bytes before q other → (r ≡ q) × (after ≡ other)
@@ -75,17 +103,13 @@ module _ (bytes : List ℕ) where
 
 -- ---- a run is a series of demand 3
 
--- the calls among some fields, and the map that they leave
+-- the calls among some fields
 abbrev pub callsOf : List Field → List Asked
 callsOf [] = []
 callsOf (call asked ∷ rest) = asked ∷ callsOf rest
 callsOf (skip ∷ rest) = callsOf rest
 callsOf (bad ∷ rest) = callsOf rest
 callsOf (cut ∷ rest) = callsOf rest
-
-abbrev pub leftBy : Tree → List Field → Tree
-leftBy t [] = t
-leftBy t (field ∷ rest) = leftBy (carried t field .1) rest
 
 -- what the calls said, as the lines have it
 abbrev pub saidIn : List Line → List (Said Reply)
@@ -129,18 +153,15 @@ module _ (bytes : List ℕ) where
   abbrev pub asked : List Asked
   asked = callsOf (fields bytes)
 
-  abbrev pub left : Tree
-  left = leftBy emptyTree (fields bytes)
-
   pub run-answers : saidIn (linesOf emptyTree (fields bytes)) ≡ answersOf treeView treeCalls emptyTree asked
   run-answers = lines-answer emptyTree (fields bytes)
 
-  pub run-counts : (line : Line) → lastIn line (linesOf emptyTree (fields bytes)) ≡ used (usedCall 10 (slotOf left) .answer)
+  pub run-counts : (line : Line) → lastIn line (linesOf emptyTree (fields bytes)) ≡ used (usedCall 10 (slotOf (leftOf bytes)) .answer)
   run-counts line = last-counts emptyTree (fields bytes) line
 
   -- walked backward from the tree that the run leaves, the record of its accepted calls is accepted step by step, meets the maps that stood before
   -- each of them, and comes to the empty tree
-  pub run-walked-back : Back treeView treeCalls left (recordOf treeView treeCalls emptyTree asked) (beforeOf treeView treeCalls emptyTree asked) emptyTree
+  pub run-walked-back : Back treeView treeCalls (leftOf bytes) (recordOf treeView treeCalls emptyTree asked) (beforeOf treeView treeCalls emptyTree asked) emptyTree
   run-walked-back =
       subst (λ (last : Tree). Back treeView treeCalls last (recordOf treeView treeCalls emptyTree asked) (beforeOf treeView treeCalls emptyTree asked) emptyTree)
       (sym (left-last emptyTree (fields bytes)))

@@ -3,6 +3,7 @@ use mathlib.Core.Path.{_≡_, refl}
 use mathlib.Core.List.{List, [], _∷_}
 use Prim.Native.Nat.{ℕ}
 use Rattle.answers.specs.Said.{judged, leaving}
+use Rattle.texts.specs.Decimal.{decimalWithin, decimal}
 use Rattle.bits.specs.Bytes.{fromBytes}
 use Rattle.bits.specs.Range.{least, every, count, within}
 use Rattle.bits.specs.Digits.{digit, number}
@@ -13,7 +14,7 @@ use Rattle.slots.specs.View.{answered, changed}
 use Rattle.views.specs.Words.{listed}
 use Rattle.views.specs.Painting.{slotsIn, slotIn}
 use Rattle.report.specs.Fields.{firstField, fieldsWithin, fields}
-use Rattle.report.specs.Report.{decimalWithin, decimal, linesOf, textOf, reportFrom, reportOf}
+use Rattle.report.specs.Report.{linesOf, textOf, reportFrom, reportOf}
 
 -- a record, and its report
 pub record Row : Type 0 where

@@ -3,14 +3,15 @@
 use mathlib.Core.Path.{_≡_, refl, sym, ap, _∙_}
 use mathlib.Core.Bool.{true, false, true≢false}
 use mathlib.Core.List.{List, [], _∷_}
-use Prim.Native.Nat.{ℕ, zero, suc, _+_, _-_, _*_, _/_, _^_, _≤_, _<_}
-use native.Mathlib.Nat.{pow-suc, div-lt-iff-lt-mul, zero-lt-suc, zero-mul}
+use Prim.Native.Nat.{ℕ, zero, suc, _+_, _-_, _*_, _^_, _≤_, _<_}
+use native.Mathlib.Nat.{zero-mul}
 use native.Mathlib.Omega.{arith}
 use lib.Dec.{ltb}
 use lib.ListN.{length, take, drop, length-append, length-drop}
 use borrow.Author.Tests.{ltb-true, ltb-false, eqb-true}
 use Rattle.answers.specs.Said.{Said, value, refused, Check, _when_, judged, value≢refused}
 use Rattle.answers.specs.Answers.{Reply, at, ok}
+use Rattle.texts.specs.Decimal.{decimalWithin, decimal, decimal-short}
 use Rattle.bits.specs.Bytes.{fromBytes}
 use Rattle.bits.specs.Range.{either, count, count-most, count-agree}
 use Rattle.slots.specs.Sets.{none}
@@ -22,20 +23,7 @@ use Rattle.slots.specs.Series.{made}
 use Rattle.tree.specs.declared.Tree.{Tree}
 use Rattle.tree.specs.Layout.{treeView, slotOf, treeCalls}
 use Rattle.report.specs.Fields.{Kind, takes, claims, frees, skips, stops, mayHold, fieldOf, Field, call, skip, bad, cut, headKind, headLength, afterHead, firstField, header-cut, header-bad, body-cut, body-whole, first-shorter}
-use Rattle.report.specs.Report.{said, used, decimalWithin, decimal, decimal-digit, decimal-tens, written, carried, reportFrom, report-end, report-first, report-reads, emptyTree, reportOf}
-
--- ---- a number has no more digits than it needs
-
-pub decimal-short : (k most n : ℕ) → n < 10 ^ suc k → length (decimalWithin most n) ≤ suc k
-unfolding decimalWithin
-decimal-short k zero n small = omega arith
-decimal-short zero (suc most) n small = rw (decimal-digit most n small) (omega arith)
-decimal-short (suc k) (suc most) n small =
-    either (ltb n 10)
-    (λ one. rw (decimal-digit most n (ltb-true n 10 one)) (omega arith))
-    (λ more.
-    let tens = decimal-short k most (n / 10) (div-lt-iff-lt-mul (zero-lt-suc 9) .1 (rw (sym (pow-suc 10 (suc k))) small)) in
-    rw (decimal-tens most n (ltb-false n 10 more), length-append) (omega (arith, tens)))
+use Rattle.report.specs.Report.{said, used, written, carried, reportFrom, report-end, report-first, report-reads, emptyTree, reportOf}
 
 -- ---- what a field takes from the record
 

@@ -1,17 +1,17 @@
 -- Carrying fields out, and the report: each field's line is the answer of its own call on the map that the one before left, as in the series of
 -- demand 3. It has no limit of length of its own; the runner's limits stand in front, in `ran`. Rests on `Fields`, on the tree's view and on `answers`.
-use mathlib.Core.Path.{_≡_, refl, sym, ap, _∙_}
+use mathlib.Core.Path.{_≡_, ap, _∙_}
 use mathlib.Core.Bool.{true, false}
 use mathlib.Core.List.{List, [], _∷_, _++_, append-nil}
-use Prim.Native.Nat.{ℕ, zero, suc, _+_, _-_, _*_, _/_, _%_, _≤_, _<_}
-use native.Mathlib.Omega.{arith}
+use Prim.Native.Nat.{ℕ, _≤_, _<_}
 use lib.Dec.{ltb}
-use lib.ListN.{length, getD, drop}
-use borrow.Author.Tests.{lt-ltb, le-ltb, ltb-true, ltb-false}
+use lib.ListN.{length, drop}
+use borrow.Author.Tests.{lt-ltb, le-ltb}
 use Rattle.answers.specs.Said.{Said, value, refused, _when_, judged, leaving}
 use Rattle.answers.specs.Answers.{Reply, at, ok, numberSays}
 use Rattle.answers.specs.declared.Number.{Number}
-use Rattle.bits.specs.Range.{either}
+use Rattle.texts.specs.Decimal.{decimal}
+use Rattle.texts.specs.Texts.{end}
 use Rattle.slots.specs.Sets.{none}
 use Rattle.slots.specs.Calls.{usedCall}
 use Rattle.slots.specs.Series.{made}
@@ -31,94 +31,9 @@ pub data Line : Type 0 where
   -- how many slots are used in the end
   used : ℕ → Line
 
--- a number in decimal, without zeros in front: a digit, or the digits of its tens and then its last one; the first number bounds how many
-unfoldable pub decimalWithin : ℕ → ℕ → List ℕ
-decimalWithin zero n = []
-decimalWithin (suc most) n = elim (ltb n 10) [ true ↦ (48 + n) ∷ [] | false ↦ decimalWithin most (n / 10) ++ ((48 + n % 10) ∷ []) ]
-
-unfoldable pub decimal : ℕ → List ℕ
-decimal n = decimalWithin (suc n) n
-
-pub decimal-digit : (most n : ℕ) → n < 10 → decimalWithin (suc most) n ≡ (48 + n) ∷ []
-unfolding decimalWithin
-decimal-digit most n small = rw (lt-ltb n 10 small, decimalWithin)
-
-pub decimal-tens : (most n : ℕ) → 10 ≤ n → decimalWithin (suc most) n ≡ decimalWithin most (n / 10) ++ ((48 + n % 10) ∷ [])
-unfolding decimalWithin
-decimal-tens most n large = rw (le-ltb n 10 large, decimalWithin)
-
--- ---- what plain decimal means, for every number and without a bound
-
--- a bound above the number gives the same digits as any other
-bound-alike : (most more n : ℕ) → n < most → n < more → decimalWithin most n ≡ decimalWithin more n
-bound-alike zero more n l h = absurd (omega (arith, l))
-bound-alike (suc most) zero n l h = absurd (omega (arith, h))
-bound-alike (suc most) (suc more) n l h =
-    either (ltb n 10)
-    (λ e. let small = ltb-true n 10 e in decimal-digit most n small ∙ sym (decimal-digit more n small))
-    (λ e.
-    let large : 10 ≤ n = ltb-false n 10 e in
-    decimal-tens most n large
-    ∙ ap (λ (tens : List ℕ). tens ++ ((48 + n % 10) ∷ [])) (bound-alike most more (n / 10) (omega arith) (omega arith))
-    ∙ sym (decimal-tens more n large))
-
--- a number below ten is one digit; any other is the digits of its tens and then its last digit
-pub decimal-small : (n : ℕ) → n < 10 → decimal n ≡ (48 + n) ∷ []
-unfolding decimal
-decimal-small n small = decimal-digit n n small
-
-pub decimal-large : (n : ℕ) → 10 ≤ n → decimal n ≡ decimal (n / 10) ++ ((48 + n % 10) ∷ [])
-unfolding decimal
-decimal-large n large =
-    decimal-tens n n large
-    ∙ ap (λ (tens : List ℕ). tens ++ ((48 + n % 10) ∷ [])) (bound-alike n (suc (n / 10)) (n / 10) (omega arith) (omega arith))
-
--- the number that some digits say, read from the front: each moves what was read before it up by ten
-unfoldable pub readOn : ℕ → List ℕ → ℕ
-readOn n [] = n
-readOn n (byte ∷ bytes) = readOn (n * 10 + (byte - 48)) bytes
-
-read-then : (n : ℕ) (xs ys : List ℕ) → readOn n (xs ++ ys) ≡ readOn (readOn n xs) ys
-unfolding readOn
-read-then n [] ys = refl
-read-then n (x ∷ xs) ys = read-then (n * 10 + (x - 48)) xs ys
-
-says-within : (most n : ℕ) → n < most → readOn 0 (decimalWithin most n) ≡ n
-unfolding readOn
-says-within zero n l = absurd (omega (arith, l))
-says-within (suc most) n l =
-    either (ltb n 10)
-    (λ e. rw (decimal-digit most n (ltb-true n 10 e)) (omega arith))
-    (λ e.
-    let large : 10 ≤ n = ltb-false n 10 e in
-    rw (decimal-tens most n large, read-then 0 (decimalWithin most (n / 10)) ((48 + n % 10) ∷ []), says-within most (n / 10) (omega arith)) (omega arith))
-
--- the digits of a number say that number
-pub decimal-says : (n : ℕ) → readOn 0 (decimal n) ≡ n
-unfolding decimal
-decimal-says n = says-within (suc n) n (omega arith)
-
-front-stays : (xs ys : List ℕ) → 48 < getD xs 0 0 → 48 < getD (xs ++ ys) 0 0
-front-stays [] ys some = absurd (omega (arith, some))
-front-stays (x ∷ xs) ys some = some
-
-front-within : (most n : ℕ) → 0 < n → n < most → 48 < getD (decimalWithin most n) 0 0
-front-within zero n pos l = absurd (omega (arith, l))
-front-within (suc most) n pos l =
-    either (ltb n 10)
-    (λ e. rw (decimal-digit most n (ltb-true n 10 e)) (omega arith))
-    (λ e.
-    let large : 10 ≤ n = ltb-false n 10 e in
-    rw (decimal-tens most n large) (front-stays (decimalWithin most (n / 10)) _ (front-within most (n / 10) (omega arith) (omega arith))))
-
--- and no zero stands in front of a number above 0
-pub decimal-front : (n : ℕ) → 0 < n → 48 < getD (decimal n) 0 0
-unfolding decimal
-decimal-front n pos = front-within (suc n) n pos (omega arith)
-
 -- ---- the words
 
--- the words, in bytes: `at `, `ok`, `no `, `skip`, `bad`, `cut`, `big`, `used `; and the end of a line
+-- the words, in bytes: `at `, `ok`, `no `, `skip`, `bad`, `cut`, `big`, `used `
 abbrev pub atWord : List ℕ
 atWord = 97 ∷ 116 ∷ 32 ∷ []
 
@@ -143,9 +58,6 @@ bigWord = 98 ∷ 105 ∷ 103 ∷ []
 abbrev pub usedWord : List ℕ
 usedWord = 117 ∷ 115 ∷ 101 ∷ 100 ∷ 32 ∷ []
 
-abbrev pub end : List ℕ
-end = 10 ∷ []
-
 -- a word and a number
 abbrev pub numbered : List ℕ → ℕ → List ℕ
 numbered word n = word ++ (decimal n ++ end)
@@ -168,6 +80,11 @@ carried t (call asked) = let out = made treeView treeCalls t asked in (said (out
 carried t skip = (skipped, t)
 carried t bad = (stopped, t)
 carried t cut = (short, t)
+
+-- the map that some fields leave
+abbrev pub leftBy : Tree → List Field → Tree
+leftBy t [] = t
+leftBy t (field ∷ rest) = leftBy (carried t field .1) rest
 
 -- the lines of some fields from a map on, and last how many slots are used
 unfoldable pub linesOf : Tree → List Field → List Line
@@ -208,6 +125,10 @@ emptyTree = ofSlots none
 abbrev pub reportOf : List ℕ → List ℕ
 reportOf bytes = reportFrom emptyTree bytes
 
+-- the map that a record leaves
+abbrev pub leftOf : List ℕ → Tree
+leftOf bytes = leftBy emptyTree (fields bytes)
+
 -- the text at the buffer's start; the bytes after it stay
 abbrev pub over : List ℕ → List ℕ → List ℕ
 over text buffer = text ++ drop (length text) buffer
@@ -232,9 +153,25 @@ module _ (bytes buffer : List ℕ) where
   unfolding ran leaving judged
   ran-accepted limit room = rw (le-ltb 32768 (length bytes) limit, le-ltb (length buffer) 54624 room)
 
--- the contract
+-- the same, and the map that the record leaves; a run that is refused leaves the empty tree
+unfoldable pub ranMap : List ℕ → List ℕ → Said ℕ × List ℕ × Tree
+ranMap bytes buffer = let out = ran bytes buffer in (out .0, out .1, leaving (out .0) (λ _. leftOf bytes) emptyTree .1)
+
+module _ (bytes buffer : List ℕ) where
+  pub map-refused : (k : ℕ) → ran bytes buffer ≡ (refused k, buffer) → ranMap bytes buffer ≡ (refused k, buffer, emptyTree)
+  unfolding ranMap leaving
+  map-refused k e = rw e
+
+  pub map-accepted : length bytes ≤ 32768 → 54624 ≤ length buffer → ranMap bytes buffer ≡ (value (length (reportOf bytes)), over (reportOf bytes) buffer, leftOf bytes)
+  unfolding ranMap leaving
+  map-accepted limit room = rw (ran-accepted bytes buffer limit room)
+
+-- the contracts
 abbrev pub RunSays : List ℕ → List ℕ → Number → List ℕ → Type 0
 RunSays bytes before r after = (numberSays r, after) ≡ ran bytes before
+
+abbrev pub RunMapSays : List ℕ → List ℕ → Number → Tree → List ℕ → Type 0
+RunMapSays bytes before r map after = (numberSays r, after, map) ≡ ranMap bytes before
 
 -- ---- what the program writes: the report, or for a record that is too long only `big`
 

@@ -64,6 +64,11 @@ module _ (a v : ℕ) (pos : 0 < a) where
     least = λ m p h. rw (p .1) (mul-le-mul-right a (le-of-suc-le-suc (div-lt-iff-lt-mul pos .1 (rw suc-mul (omega (arith, p .1))))));
   }
 
+-- it lies less than a above the value
+pub up-near : (a v : ℕ) → up a v ≤ v + (a - 1)
+unfolding up down
+up-near a v = div-mul-le-self (v + (a - 1)) a
+
 pub divides : (a v : ℕ) → T (eqb (v % a) 0) ↔ Multiple a v
 divides a v = (
   λ t. (v / a, omega (arith, eqb→eq (v % a) 0 t, div-add-mod' v a)),

@@ -16,6 +16,7 @@ use Rattle.bits.specs.Range.{bit, and-true, and-false, or-false, either, same-t
 use Rattle.bits.specs.Digits.{digit, number, digit-number, number-is, number-agree, number-lt, zero-digit, and-digit, or-digit, up-digit, bit-digit, power-digit, complement-digit, read-digit}
 use Rattle.slots.specs.Sets.{Slots, Named, allFree, allUsed, finds-all-free, finds-all-used}
 use Rattle.slots.specs.Lowest.{freeFrom}
+use Rattle.slots.specs.Gaps.{having, has-value, has-other}
 use Rattle.places.specs.Places.{runMask, freeIn, usedIn, paintedIn}
 use Rattle.rows.specs.Rows.{markTest, withBit, openFrom}
 use Rattle.views.specs.Marks.{passesAt, partWords}
@@ -172,36 +173,38 @@ count-next words i h =
 seen : (words : List ℕ) (i p : ℕ) → i * 64 < slotsIn words → i * 64 ≤ p → p < (i + 1) * 64 → slotIn words p ≡ digit (getD words i 0) (p - i * 64)
 seen words i p h l b = ap (slotIn words) (omega arith) ∙ slot-in-word words i (p - i * 64) h (omega arith)
 
-module _ (words : List ℕ) (start place : ℕ) (inside : start < slotsIn words) (told : place ≡ freeFrom 6 (digit (getD words (start / 64) 0)) (start % 64)) where
-  abbrev word : ℕ
-  word = getD words (start / 64) 0
-
+-- a word asked for its first place that has not the value v: as it is where v is true, and else as its complement x
+module _ (v : Bool) (words : List ℕ) (start x place : ℕ) (inside : start < slotsIn words)
+    (asked : (p : ℕ) → p < 64 → digit x p ≡ having v (digit (getD words (start / 64) 0)) p) (told : place ≡ freeFrom 6 (digit x) (start % 64)) where
   here : start / 64 * 64 < slotsIn words
   here = omega arith
 
-  place-is : place ≡ least (λ i. not (digit word i)) (start % 64) (64 - start % 64)
+  place-is : place ≡ least (λ i. not (digit x i)) (start % 64) (64 - start % 64)
   unfolding freeFrom
-  place-is = told ∙ ap (λ (s : ℕ). least (λ i. not (digit word i)) s (64 - start % 64)) (min-eq-left (omega arith))
+  place-is = told ∙ ap (λ (s : ℕ). least (λ i. not (digit x i)) s (64 - start % 64)) (min-eq-left (omega arith))
 
-  -- each slot of the word from the start on is used, up to the place
-  used-before : (p : ℕ) → start ≤ p → p < (start / 64 + 1) * 64 → p < start / 64 * 64 + place → slotIn words p ≡ true
-  used-before p l b m =
+  -- each slot of the word from the start on has the value, up to the place
+  value-before : (p : ℕ) → start ≤ p → p < (start / 64 + 1) * 64 → p < start / 64 * 64 + place → slotIn words p ≡ v
+  value-before p l b m =
+      let q = p - start / 64 * 64 in
       seen words (start / 64) p here (omega arith) b
-      ∙ not-false _ (least-first (λ i. not (digit word i)) (start % 64) (64 - start % 64) (p - start / 64 * 64) (omega arith) (rw (sym place-is) (omega arith)))
+      ∙ has-value v (digit (getD words (start / 64) 0)) q (sym (asked q (omega arith))
+      ∙ not-false _ (least-first (λ i. not (digit x i)) (start % 64) (64 - start % 64) q (omega arith) (rw (sym place-is) (omega arith))))
 
-  pub word-full : 64 ≤ place → (p : ℕ) → start ≤ p → p < (start / 64 + 1) * 64 → slotIn words p ≡ true
-  word-full h p l b = used-before p l b (omega arith)
+  pub word-full : 64 ≤ place → (p : ℕ) → start ≤ p → p < (start / 64 + 1) * 64 → slotIn words p ≡ v
+  word-full h p l b = value-before p l b (omega arith)
 
-  pub word-has : place < 64 → (p : ℕ) → start ≤ p → p < start / 64 * 64 + place → slotIn words p ≡ true
-  word-has h p l m = used-before p l (omega arith) m
+  pub word-has : place < 64 → (p : ℕ) → start ≤ p → p < start / 64 * 64 + place → slotIn words p ≡ v
+  word-has h p l m = value-before p l (omega arith) m
 
   pub word-from : start ≤ start / 64 * 64 + place
-  word-from = omega (arith, place-is, least-from (λ i. not (digit word i)) (start % 64) (64 - start % 64))
+  word-from = omega (arith, place-is, least-from (λ i. not (digit x i)) (start % 64) (64 - start % 64))
 
-  pub word-free : place < 64 → slotIn words (start / 64 * 64 + place) ≡ false
-  word-free h =
+  pub word-stops : place < 64 → slotIn words (start / 64 * 64 + place) ≡ not v
+  word-stops h =
       slot-in-word words (start / 64) place here h
-      ∙ not-true _ (rw place-is (least-passes (λ i. not (digit word i)) (start % 64) (64 - start % 64) (rw (sym place-is) (omega arith))))
+      ∙ has-other v (digit (getD words (start / 64) 0)) place (sym (asked place h)
+      ∙ not-true _ (rw place-is (least-passes (λ i. not (digit x i)) (start % 64) (64 - start % 64) (rw (sym place-is) (omega arith)))))
 
 -- from the end of the greatest row on the answer is that end
 pub far-from : (S : Slots) (from : ℕ) → 16384 ≤ from → 16384 ≡ freeFrom 14 S from
@@ -245,6 +248,35 @@ module _ (words : List ℕ) (from start : ℕ) (passed : Passed words from start
       let low = passed .later in
       let near = passed .near in
       sym (least-none (λ i. not (slotIn words i)) (min from 16384) (16384 - from) (λ p f h. ap not (passed .used p (omega arith) (omega arith))) ∙ omega arith))
+
+-- ---- the first used slot
+
+-- each slot from `from` to the start is free, as far as the search goes
+pub record PassedFree (words : List ℕ) (from end start : ℕ) : Type 0 where
+  pub later : from ≤ start
+  pub free : (p : ℕ) → from ≤ p → p < start → p < end → slotIn words p ≡ false
+
+pub free-none : (words : List ℕ) (from end : ℕ) → PassedFree words from end from
+free-none words from end = record { later = le-refl from; free = λ p l b _. absurd (omega arith) }
+
+module _ (words : List ℕ) (from end start : ℕ) (passed : PassedFree words from end start) where
+  pub free-on : (next : ℕ) → start ≤ next → ((p : ℕ) → start ≤ p → p < next → slotIn words p ≡ false) → PassedFree words from end next
+  free-on next l more = record {
+    later = le-trans (passed .later) l;
+    free = λ p f b e. either (ltb p start) (λ t. passed .free p f (ltb-true p start t) e) (λ t. more p (ltb-false p start t) b);
+  }
+
+  -- a used slot is found, before the end or not
+  pub used-found : (r : ℕ) → start ≤ r → r < end → slotIn words r ≡ true → ((p : ℕ) → start ≤ p → p < r → slotIn words p ≡ false) → r ≡ least (slotIn words) from (end - from)
+  used-found r l b used more =
+      let all = free-on r l more in
+      let low = passed .later in
+      sym (least-is (slotIn words) from (end - from) r (le-trans low l) (omega arith) used (λ p f h. all .free p f h (omega arith)))
+
+  pub used-late : (r : ℕ) → from ≤ end → end ≤ r → ((p : ℕ) → start ≤ p → p < r → slotIn words p ≡ false) → end ≡ least (slotIn words) from (end - from)
+  used-late r low l more =
+      sym (least-none (slotIn words) from (end - from) (λ p f b.
+      either (ltb p start) (λ t. passed .free p f (ltb-true p start t) (omega arith)) (λ t. more p (ltb-false p start t) (omega arith))) ∙ omega arith)
 
 -- ---- going by the marks of full words
 

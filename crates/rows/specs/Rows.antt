@@ -41,6 +41,10 @@ CountSays words r = r ≡ countOf words
 abbrev pub FirstFreeSays : List ℕ → List ℕ → ℕ → ℕ → Type 0
 FirstFreeSays words fulls from r = r ≡ freeFrom 14 (seenFrom words fulls from) from
 
+-- a word that is marked counts as all ones
+abbrev pub FirstUsedSays : List ℕ → List ℕ → ℕ → ℕ → ℕ → Type 0
+FirstUsedSays words fulls from end r = r ≡ least (slotIn (filled words fulls)) from (end - from)
+
 abbrev pub AllFreeSays : List ℕ → ℕ → ℕ → Bool → Type 0
 AllFreeSays words start n r = r ≡ allFree (slotIn words) start n
 
@@ -72,6 +76,9 @@ count-one-answer words r q p o = p ∙ sym o
 
 pub first-free-one-answer : (words fulls : List ℕ) (from r q : ℕ) → FirstFreeSays words fulls from r → FirstFreeSays words fulls from q → r ≡ q
 first-free-one-answer words fulls from r q p o = p ∙ sym o
+
+pub first-used-one-answer : (words fulls : List ℕ) (from end r q : ℕ) → FirstUsedSays words fulls from end r → FirstUsedSays words fulls from end q → r ≡ q
+first-used-one-answer words fulls from end r q p o = p ∙ sym o
 
 pub all-free-one-answer : (words : List ℕ) (start n : ℕ) (r q : Bool) → AllFreeSays words start n r → AllFreeSays words start n q → r ≡ q
 all-free-one-answer words start n r q p o = p ∙ sym o

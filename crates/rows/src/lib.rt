@@ -9,7 +9,7 @@ ghost use Rattle.places.specs.Places.{RunMaskSays};
 ghost use Rattle.views.specs.Painting.{slotsIn, partMask};
 ghost use Rattle.views.specs.Full.{marked as wordMarked};
 ghost use Rattle.views.specs.Marks.{partWords};
-ghost use Rattle.rows.specs.Rows.{markTest, openFrom, GetSays, CountSays, FirstFreeSays, AllFreeSays, FitsSays, AllUsedSays, PaintSays, MarksSays, TouchedSays, EndOfSays, withBit};
+ghost use Rattle.rows.specs.Rows.{markTest, openFrom, GetSays, CountSays, FirstFreeSays, FirstUsedSays, AllFreeSays, FitsSays, AllUsedSays, PaintSays, MarksSays, TouchedSays, EndOfSays, withBit};
 
 // Where the masks of a run come from: claim and set read the table of low masks, take and free build
 // them by shifts.
@@ -79,6 +79,35 @@ pub fn first_free<'a>(words: &'a [u64], fulls: &'a [u16], from: usize) -> usize
             }
         }
         start = next_open(fulls, i + 1) * 64;
+    }
+    end
+}
+
+// The least used slot from `from` on and before `end`, or `end` where there is none: where a run of free
+// slots ends. Past the words no slot is used. Where `end` is not above `from` the answer is `from`.
+// `fulls` marks full words as above: a word that is marked counts as full.
+pub fn first_used<'a>(words: &'a [u64], fulls: &'a [u16], from: usize, end: usize) -> usize
+    ensures { λ r. ⌜ FirstUsedSays (now (words .entry)) (now (fulls .entry)) from end r ⌝ }
+{
+    if end <= from {
+        return from;
+    }
+    let stop = end_of(slots(words), from, end - from);
+    let mut start = from;
+    while start < stop {
+        if marked(fulls, start / 64) {
+            return start;
+        }
+        let i = start / 64;
+        let place = places::first_free(!words[i], start % 64);
+        if place < 64 {
+            let found = i * 64 + place;
+            if end <= found {
+                return end;
+            }
+            return found;
+        }
+        start = (i + 1) * 64;
     }
     end
 }

@@ -1,4 +1,3 @@
 pub mod Pieces
-pub mod Decimals
 pub mod Texts
 pub mod Running

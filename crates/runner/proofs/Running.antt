@@ -19,8 +19,8 @@ use Rattle.tree.specs.Layout.{treeView, slotOf, ofSlots, Sound}
 use Rattle.tree.specs.Contracts.{UsedSays}
 use Rattle.runner.specs.declared.Step.{Step}
 use Rattle.runner.specs.declared.fields.Piece.{Piece}
-use Rattle.report.specs.Fields.{Field, call, skip, bad, cut, firstField}
-use Rattle.report.specs.Report.{used, written, carried, reportFrom, report-end, report-reads, reportOf, over, ran, ran-accepted}
+use Rattle.report.specs.Fields.{Field, call, skip, bad, cut, firstField, fields, fields-none, fields-first}
+use Rattle.report.specs.Report.{used, written, carried, reportFrom, report-end, report-reads, reportOf, leftBy, leftOf, over, ranMap, map-accepted}
 use Rattle.report.specs.Limits.{report-fits}
 use Rattle.bits.specs.Buffers.{putAt, put-length}
 use Rattle.runner.specs.Inner.{lineSays, fieldSays, PieceSays, StepSays, put-over}
@@ -31,6 +31,7 @@ pub record Running (bytes before : List ℕ) (map : Tree) (next end : ℕ) (repo
   pub ends : end ≡ length done
   pub held : report ≡ over done before
   pub left : reportOf bytes ≡ done ++ reportFrom map (drop next bytes)
+  pub map-left : leftBy map (fields (drop next bytes)) ≡ leftOf bytes
   pub inside : next ≤ length bytes
   pub sound : Sound map
   -- what was judged before the loop
@@ -53,6 +54,7 @@ starts bytes before t is limit room = record {
   ends = refl;
   held = refl;
   left = ap (λ (map : Tree). reportFrom map bytes) (sym is);
+  map-left = ap (λ (map : Tree). leftBy map (fields bytes)) is;
   inside = omega arith;
   sound = rw is (treeView .made-sound none tt);
   limit = limit;
@@ -112,6 +114,13 @@ module _ {bytes before : List ℕ} {map : Tree} {next end : ℕ} {report : List 
         ap (reportFrom map) first ∙ report-reads map (getD bytes next 0) (drop (suc next) bytes) _ _ is-first
         ∙ sym (λ i. written (steps i .0) ++ reportFrom (steps i .1) (drop (piece .next) bytes))
 
+    rest-left : leftBy map (fields (drop next bytes)) ≡ leftBy (step .map) (fields (drop (piece .next) bytes))
+    rest-left =
+        ap (λ (b : List ℕ). leftBy map (fields b)) first
+        ∙ ap (leftBy map) (fields-first (getD bytes next 0) (drop (suc next) bytes))
+        ∙ (λ i. leftBy (carried map (is-first i .0) .1) (fields (is-first i .1)))
+        ∙ sym (λ i. leftBy (steps i .1) (fields (drop (piece .next) bytes)))
+
     pub line-fits : end + length line ≤ length report
     line-fits = has-room line rest line-first
 
@@ -122,6 +131,7 @@ module _ {bytes before : List ℕ} {map : Tree} {next end : ℕ} {report : List 
           ends = longer line last ends;
           held = longer-by .0;
           left = longer-by .1;
+          map-left = sym rest-left ∙ running .map-left;
           inside = reads .inside;
           sound = rw (ap (λ o. o .1) steps) (carried-sound map (fieldSays (piece .field)) (running .sound));
           limit = running .limit;
@@ -153,8 +163,14 @@ module _ {bytes before : List ℕ} {map : Tree} {next end : ℕ} {report : List 
       pub keeps-length : (after : List ℕ) → after ≡ putAt report end final → length after ≡ length before
       keeps-length after put = ap length put ∙ put-length report end final last-fits ∙ report-length
 
-      pub finishes : (last : ℕ) (after : List ℕ) → last ≡ end + length final → after ≡ putAt report end final → (value last, after) ≡ ran bytes before
+      pub finishes : (last : ℕ) (after : List ℕ) → last ≡ end + length final → after ≡ putAt report end final → (value last, after, map) ≡ ranMap bytes before
       finishes last after ends put =
           let longer-by = puts final [] last-first after put in
           let all : done ++ final ≡ reportOf bytes = sym (longer-by .1 ∙ append-nil (done ++ final)) in
-          (λ i. (value (longer final last ends i), longer-by .0 i)) ∙ (λ i. (value (length (all i)), over (all i) before)) ∙ sym (ran-accepted bytes before (running .limit) (running .room))
+          (λ i. (value (longer final last ends i), longer-by .0 i, stands i))
+          ∙ (λ i. (value (length (all i)), over (all i) before, leftOf bytes))
+          ∙ sym (map-accepted bytes before (running .limit) (running .room))
+        where
+          -- no byte is left, so the map that stands is what the record leaves
+          stands : map ≡ leftOf bytes
+          stands = sym (ap (λ (b : List ℕ). leftBy map (fields b)) (drop-of-length-le bytes {i = next} over-now) ∙ ap (leftBy map) fields-none) ∙ running .map-left

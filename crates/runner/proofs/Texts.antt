@@ -4,7 +4,9 @@ use mathlib.Core.List.{List, _++_, append-assoc}
 use Prim.Native.Nat.{ℕ, _+_, _≤_}
 use native.Mathlib.Omega.{arith}
 use lib.ListN.{length, length-append}
-use Rattle.report.specs.Report.{decimal, end, numbered}
+use Rattle.texts.specs.Decimal.{decimal}
+use Rattle.texts.specs.Texts.{end, PutNumberSays, put-fits}
+use Rattle.report.specs.Report.{numbered}
 use Rattle.bits.specs.Buffers.{putAt, put-length, put-put}
 
 module _ (report word : List ℕ) (offset n : ℕ) (fits : offset + length (numbered word n) ≤ length report) where
@@ -15,28 +17,31 @@ module _ (report word : List ℕ) (offset n : ℕ) (fits : offset + length (numb
   word-fits = omega (arith, fits, long)
 
   -- the word is there
-  module _ (after : ℕ) (worded digits : List ℕ) (ends : after ≡ offset + length word) (put : worded ≡ putAt report offset word) (shown : digits ≡ decimal n) where
+  module _ (after : ℕ) (worded : List ℕ) (ends : after ≡ offset + length word) (put : worded ≡ putAt report offset word) where
     worded-length : length worded ≡ length report
     worded-length = ap length put ∙ put-length report offset word word-fits
 
-    digits-length : length digits ≡ length (decimal n)
-    digits-length = ap length shown
-
-    pub digits-fit : after + length digits ≤ length worded
-    digits-fit = omega (arith, fits, long, worded-length, digits-length, ends)
+    digits-fit : after + length (decimal n) ≤ length worded
+    digits-fit = omega (arith, fits, long, worded-length, ends)
 
     -- and the number
-    module _ (last : ℕ) (numeral : List ℕ) (further : last ≡ after + length digits) (put-more : numeral ≡ putAt worded after digits) where
+    module _ (last : ℕ) (numeral : List ℕ) (digits : PutNumberSays worded after n last numeral) where
+      further : last ≡ after + length (decimal n)
+      further = ap (λ out. out .0) (digits ∙ put-fits after worded (decimal n) digits-fit)
+
+      put-more : numeral ≡ putAt worded after (decimal n)
+      put-more = ap (λ out. out .1) (digits ∙ put-fits after worded (decimal n) digits-fit)
+
       pub end-fits : last + 1 ≤ length numeral
       end-fits =
-          let same = ap length put-more ∙ put-length worded after digits digits-fit in
-          omega (arith, fits, long, worded-length, digits-length, ends, further, same)
+          let same = ap length put-more ∙ put-length worded after (decimal n) digits-fit in
+          omega (arith, fits, long, worded-length, ends, further, same)
 
       both : numeral ≡ putAt report offset (word ++ decimal n)
-      both = put-more ∙ (λ i. putAt (put i) (ends i) (shown i)) ∙ put-put report offset word (decimal n) word-fits
+      both = put-more ∙ (λ i. putAt (put i) (ends i) (decimal n)) ∙ put-put report offset word (decimal n) word-fits
 
       reached : last ≡ offset + length (word ++ decimal n)
-      reached = let joined = length-append word (decimal n) in omega (arith, further, ends, digits-length, joined)
+      reached = let joined = length-append word (decimal n) in omega (arith, further, ends, joined)
 
       pub all-put : (line : List ℕ) → line ≡ putAt numeral last end → line ≡ putAt report offset (numbered word n)
       all-put line put-last =
@@ -46,7 +51,7 @@ module _ (report word : List ℕ) (offset n : ℕ) (fits : offset + length (numb
           ∙ ap (putAt report offset) (append-assoc word (decimal n) end)
 
       pub all-length : (finish : ℕ) → finish ≡ last + 1 → finish ≡ offset + length (numbered word n)
-      all-length finish e = omega (arith, e, further, ends, digits-length, long)
+      all-length finish e = omega (arith, e, further, ends, long)
 
 -- ---- a text that is known to be another
 

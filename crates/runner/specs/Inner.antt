@@ -5,7 +5,11 @@ use mathlib.Core.List.{List, _++_, append-assoc}
 use Prim.Native.Nat.{ℕ, _+_, _≤_, _<_}
 use lib.ListN.{length, take, drop, length-append}
 use lib.Seq.{drop-drop, take-append-seam, drop-append-add}
-use Rattle.answers.specs.Answers.{answerSays}
+use Rattle.answers.specs.Said.{Said, refused}
+use Rattle.answers.specs.Refusals.{numberOf}
+use Rattle.answers.specs.Answers.{answerSays, numberSays}
+use Rattle.answers.specs.declared.Refusal.{Refusal}
+use Rattle.answers.specs.declared.Number.{Number}
 use Rattle.answers.specs.declared.Answer.{Answer}
 use Rattle.slots.specs.Plain.{take as askTake, claim as askClaim, free as askFree}
 use Rattle.tree.specs.declared.Tree.{Tree}
@@ -19,7 +23,7 @@ use Rattle.runner.specs.declared.lines.Line.{Line as CodeLine}
 use Rattle.runner.specs.declared.lines.Line.the-variants.{Said as Line·Said, Skipped as Line·Skipped, Stopped as Line·Stopped, Short as Line·Short}
 use Rattle.bits.specs.Buffers.{putAt}
 use Rattle.report.specs.Fields.{Kind, takes, claims, frees, skips, stops, Field, call, skip, bad, cut, firstField}
-use Rattle.report.specs.Report.{Line, said, skipped, stopped, short, carried, over}
+use Rattle.report.specs.Report.{Line, said, skipped, stopped, short, carried, emptyTree, over}
 
 abbrev pub kindSays : CodeKind → Kind
 kindSays Kind·Take = takes
@@ -50,6 +54,10 @@ pub record PieceSays (bytes : List ℕ) (offset : ℕ) (r : Piece) : Type 0 wher
   pub reads-as : _≡_ {A = Field × List ℕ} (fieldSays (r .field), drop (r .next) bytes) (firstField (drop offset bytes))
   pub further : offset < r .next
   pub inside : r .next ≤ length bytes
+
+-- a run that was refused
+abbrev pub RefusedSays : Refusal → Number → Tree → Type 0
+RefusedSays why r map = _≡_ {A = Said ℕ × Tree} (numberSays r, map) (refused (numberOf why), emptyTree)
 
 -- the line of a call and the map that it left; the line of any field and the map that it leaves
 abbrev pub SaidSays : Answer → Tree → Step → Type 0

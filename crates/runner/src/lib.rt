@@ -12,13 +12,19 @@ use lines::Line;
 use tree::Tree;
 ghost use Prim.Native.Nat.{_≤_};
 ghost use lib.ListN.{length};
-ghost use Rattle.report.specs.Report.{RunSays, OutputSays};
-ghost use Rattle.runner.specs.Inner.{SaidSays, StepSays};
+ghost use Rattle.report.specs.Report.{RunSays, RunMapSays, OutputSays};
+ghost use Rattle.runner.specs.Inner.{RefusedSays, SaidSays, StepSays};
 
 // The longest record, and room for the longest report that one can have.
 const RECORD_MOST: usize = 32768;
 
 const REPORT_LEAST: usize = 54624;
+
+// What a run said, and the map that the record leaves.
+pub struct Ran {
+    pub answer: Number,
+    pub map: Tree,
+}
 
 // A field's line, and the map that it leaves.
 struct Step {
@@ -32,20 +38,38 @@ struct Step {
 pub fn run(record: &[u8], report: &mut [u8]) -> Number
     ensures { λ r. ⌜ RunSays (now («record» .entry)) (now (report .entry)) r (now (report .exit)) ⌝ }
 {
+    let ran = run_map(record, report);
+    let answer = ran.answer;
+    answer
+}
+
+// The same, with the map that the record leaves; where the run is refused that is the empty map.
+pub fn run_map(record: &[u8], report: &mut [u8]) -> Ran
+    ensures { λ r. ⌜ RunMapSays (now («record» .entry)) (now (report .entry)) (r .answer) (r .map) (now (report .exit)) ⌝ }
+{
     if RECORD_MOST < record.len() {
-        return Number::Refused(Refusal::RecordTooLong);
+        return refused(Refusal::RecordTooLong);
     }
     if report.len() < REPORT_LEAST {
-        return Number::Refused(Refusal::ReportTooShort);
+        return refused(Refusal::ReportTooShort);
     }
     reported(record, report)
 }
 
+fn refused(why: Refusal) -> Ran
+    ensures { λ r. ⌜ RefusedSays why (r .answer) (r .map) ⌝ }
+{
+    Ran {
+        answer: Number::Refused(why),
+        map: Tree::new_empty(),
+    }
+}
+
 // Writes the lines of the record's fields, each carried out on the map that the one before left, and
-// last how many slots are used. Answers the report's length.
-fn reported(record: &[u8], report: &mut [u8]) -> Number
+// last how many slots are used. Answers the report's length, with the map that is left.
+fn reported(record: &[u8], report: &mut [u8]) -> Ran
     requires { ⌜ (length (now «record») ≤ 32768) × (54624 ≤ length (now report)) ⌝ }
-    ensures { λ r. ⌜ RunSays (now («record» .entry)) (now (report .entry)) r (now (report .exit)) ⌝ }
+    ensures { λ r. ⌜ RunMapSays (now («record» .entry)) (now (report .entry)) (r .answer) (r .map) (now (report .exit)) ⌝ }
 {
     let mut map = Tree::new_empty();
     let mut next = 0;
@@ -61,9 +85,13 @@ fn reported(record: &[u8], report: &mut [u8]) -> Number
     }
     let count = map.used();
     let Number::Is(used) = count else {
-        return count;
+        return Ran { answer: count, map };
     };
-    Number::Is(lines::put_number(report, length, b"used ", used) as u64)
+    let end = lines::put_number(report, length, b"used ", used);
+    Ran {
+        answer: Number::Is(end as u64),
+        map,
+    }
 }
 
 // What the program writes for the record: its report, or where the record is too long only the line

@@ -48,10 +48,8 @@ pub(crate) fn put_number(report: &mut [u8], at: usize, word: &[u8], n: u64) -> u
     ensures { λ r. ⌜ r ≡ at + length (numbered (now (word .entry)) n) ⌝ }
     ensures { λ _. ⌜ now (report .exit) ≡ putAt (now (report .entry)) at (numbered (now (word .entry)) n) ⌝ }
 {
-    let mut digits = [0u8; 20];
-    let count = io::decimal(n, &mut digits);
     let after_word = put(report, at, word);
-    let after_number = put(report, after_word, &digits[..count]);
+    let after_number = texts::put_number(report, after_word, n);
     put(report, after_number, b"\n")
 }
 
@@ -60,7 +58,5 @@ pub(crate) fn put(report: &mut [u8], at: usize, words: &[u8]) -> usize
     ensures { λ r. ⌜ r ≡ at + length (now (words .entry)) ⌝ }
     ensures { λ _. ⌜ now (report .exit) ≡ putAt (now (report .entry)) at (now (words .entry)) ⌝ }
 {
-    let end = at + words.len();
-    bytes::copy(words, &mut report[at..end]);
-    end
+    texts::put(report, at, words)
 }

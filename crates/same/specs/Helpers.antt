@@ -6,7 +6,7 @@ use mathlib.Core.Logic.{_⊎_, inl, inr, ⊎-elim}
 use mathlib.Core.Bool.{Bool, true, false, not, _&&_, _||_}
 use mathlib.Core.List.{List, _∷_}
 use Prim.Native.Nat.{ℕ, _+_, _-_, _*_, _/_, _%_, _^_, _≤_, _<_, min, max}
-use native.Mathlib.Nat.{div-mul-le-self, mod-lt, one-mul, mod-eq-of-lt}
+use native.Mathlib.Nat.{mod-lt, one-mul, mod-eq-of-lt}
 use native.Mathlib.Omega.{arith}
 use lib.Bits.{bitAnd, and-high, and-mask}
 use lib.Dec.{leb, ltb, eqb, leb→le, le→leb, ltb→lt, lt→ltb}
@@ -21,7 +21,7 @@ use Rattle.bits.specs.Range.{either, same-test}
 use Rattle.bits.specs.Digits.{number-is, shifted-digit, low-mask-digit}
 use Rattle.bits.specs.Masks.{oneBit, places, maskBetween, OneBitSays, MaskSays}
 use Rattle.rounding.specs.Powers.{PowerOfTwo, isPower, power-found, power-exponent}
-use Rattle.rounding.specs.Multiples.{down, up, alignedUp, alignedDown, aligned}
+use Rattle.rounding.specs.Multiples.{down, up, up-near, alignedUp, alignedDown, aligned}
 use Rattle.rounding.specs.Narrow as Narrow
 use Rattle.rounding.specs.Wide as Wide
 use Rattle.rounding.specs.Pages.{pageUp, pages, pageOffset, PageAlignUpSays, RoundToPagesSays, PageOffsetSays, page-align-up-faults, pages-end}
@@ -82,7 +82,7 @@ module _ (w a : ℕ) (held : a < 2 ^ w) where
         let fits : v + (a - 1) < 2 ^ w = ltb-true (v + (a - 1)) (2 ^ w) inside in
         powered (λ departs e. inl (departs, refused-first 8 (not (isPower w a)) _ _ (ap not e))) (λ x small is e.
         inr (judged-next 8 (not (isPower w a)) _ _ (ap not e)
-        ∙ judged-passed 9 _ _ (lt-leb (2 ^ w) ((v + (a - 1)) / a * a) (omega (arith, div-mul-le-self (v + (a - 1)) a)))
+        ∙ judged-passed 9 _ _ (lt-leb (2 ^ w) ((v + (a - 1)) / a * a) (omega (arith, up-near a v)))
         ∙ ap value (rw is (sym (low-cleared w x (v + (2 ^ x - 1)) (omega arith) (rw is at fits))))))) (λ _. tt))))
 
     align-up-answers : 0 < a → v + (a - 1) < 2 ^ w → Answers (align-up w v a)

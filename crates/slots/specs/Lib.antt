@@ -1,8 +1,10 @@
 pub mod Sets
 pub mod Kinds
+pub mod Runs
 pub mod Lowest
 pub mod Calls
 pub mod Promises
+pub mod Gaps
 pub mod Search
 pub mod Tries
 pub mod Records

@@ -1,19 +1,24 @@
 -- What the owner demands of the tree map: one value of `Demands`, which has the sentences; what is the tree's own beside it; and that each contract leaves
 -- one outcome.
 use mathlib.Core.Path.{_≡_, refl, sym, ap, _∙_}
-use mathlib.Core.Bool.{Bool}
+use mathlib.Core.Bool.{Bool, true, false}
 use mathlib.Core.List.{List, [], _∷_}
 use Prim.Native.Nat.{ℕ}
-use Rattle.answers.specs.Said.{Said}
+use Rattle.answers.specs.Said.{Said, value, refused, value≢refused, value-injective, refused-injective}
+use Rattle.answers.specs.Refusals.{numberOf}
 use Rattle.answers.specs.Answers.{Reply, answerSays, nextFreeSays, truthSays, numberSays, answer-says-injective, next-free-says-injective, truth-says-injective, number-says-injective}
 use Rattle.answers.specs.declared.NextFree.{NextFree}
 use Rattle.answers.specs.declared.Number.{Number}
+use Rattle.answers.specs.declared.Number.the-variants.{Is, Refused}
+use Rattle.answers.specs.declared.Refusal.{Refusal}
 use Rattle.answers.specs.declared.Truth.{Truth}
+use Rattle.bits.specs.Range.{either, count}
 use Rattle.bits.specs.Digits.{number}
 use Rattle.slots.specs.Sets.{none, all}
-use Rattle.slots.specs.Calls.{takeCall, claimCall, freeCall, setCall}
+use Rattle.slots.specs.Calls.{takeCall, claimCall, freeCall, setCall, usedCall}
+use Rattle.slots.specs.Promises.{used-promise}
 use Rattle.slots.specs.Plain.{Asked, callOf}
-use Rattle.slots.specs.View.{same-state, places-decide}
+use Rattle.slots.specs.View.{same-state, places-decide, found-sound, found-unsound}
 use Rattle.slots.specs.Demands as Slots
 use Rattle.slots.specs.Demands.{Demands, demanded, Ran}
 use Rattle.views.specs.Painting.{slotIn}
@@ -99,6 +104,29 @@ pub words-decide-outcomes : {R : Type 0} (Says : Tree → R → Type 0) → ((t 
     → (t u : Tree) → Sound t → IsTree t → Sound u → IsTree u → t .words ≡ u .words → (r q : R) → Says t r → Says u q → r ≡ q
 words-decide-outcomes Says one-answer t u st it su iu same =
     places-decide treeView Says one-answer t u st it su iu (λ i l. ap (λ (words : List ℕ). slotIn words i) same)
+
+-- ---- the count tells whether the tree is sound: a crate above asks for it where check 1 is all that it asks of the tree
+
+module _ (t : Tree) (r : Number) (outcome : UsedSays t r) where
+  sound-said : treeView .isSound t ≡ true → numberSays r ≡ value (count (slotOf t) 0 1024)
+  sound-said e = outcome ∙ found-sound treeView t (usedCall 10 (slotOf t)) e ∙ used-promise 10 (slotOf t)
+
+  unsound-said : treeView .isSound t ≡ false → numberSays r ≡ refused 1
+  unsound-said e = outcome ∙ found-unsound treeView t (usedCall 10 (slotOf t)) e
+
+  -- it is refused only where the tree is not sound, and then with 1
+  pub refused-unsound : (why : Refusal) → r ≡ Refused why → (treeView .isSound t ≡ false) × (numberOf why ≡ 1)
+  refused-unsound why is =
+      either (treeView .isSound t)
+      (λ yes. absurd (value≢refused _ _ (sym (sound-said yes) ∙ ap numberSays is)))
+      (λ no. (no, refused-injective (sym (ap numberSays is) ∙ unsound-said no)))
+
+  -- and given only where it is, and is then the number of used slots
+  pub counted-sound : (n : ℕ) → r ≡ Is n → (treeView .isSound t ≡ true) × (n ≡ count (slotOf t) 0 1024)
+  counted-sound n is =
+      either (treeView .isSound t)
+      (λ yes. (yes, value-injective (sym (ap numberSays is) ∙ sound-said yes)))
+      (λ no. absurd (value≢refused _ _ (sym (ap numberSays is) ∙ unsound-said no)))
 
 -- ---- one answer: any two outcomes that a contract allows coincide
 

@@ -1,20 +1,17 @@
--- `compared_records::main` is safe, and ends: its turns run out. What is lent and written is as in `slotmap`. Assumes nothing.
+-- `compared_records::main` is safe, and ends: its turns run out. What is lent is what was read. Assumes nothing.
 use mathlib.Core.Path.{_≡_, sym}
 use native.Mathlib.Omega.{arith}
 use lib.ListN.{length}
 use lib.Seq.{length-take-le}
 use borrow.Author.Needs.{needs}
-use Rattle.report.specs.Demands.{output-inside}
-use mathlib.Core.Path.{_≡_}
-use lib.ListN.{length}
 use Rattle.compared_records.proofs.main.Statement.{statement}
 use Rattle.compared_records.proofs.main.Tie as tie
 
 abbrev Inv-loop : tie.InvT-loop
-Inv-loop record₀ text₀ turns₀ «record» text turns = length «record» ≡ 65536
+Inv-loop record₀ turns₀ «record» turns = length «record» ≡ 65536
 
 abbrev μ-loop : tie.MeasureT-loop
-μ-loop record₀ text₀ turns₀ «record» text turns = turns
+μ-loop record₀ turns₀ «record» turns = turns
 
 large-buffer-requires : tie.Need-large-buffer-requires Inv-loop μ-loop
 large-buffer-requires c κs = search needs
@@ -37,23 +34,14 @@ returns c = search needs
 array-share-prefix-record : tie.Need-array-share-prefix-record Inv-loop μ-loop
 array-share-prefix-record c = search needs
 
-slice-aggregate-output : tie.Need-slice-aggregate-output Inv-loop μ-loop
-slice-aggregate-output c =
+slice-aggregate-served : tie.Need-slice-aggregate-served Inv-loop μ-loop
+slice-aggregate-served c =
     let reading = c .before .before .before .read-next in
     let kept = reading .kept .0 in
     sym (length-take-le (reading .result .count) (reading .last .0) (omega (arith, reading .ensures, kept)))
 
-output-requires : tie.Need-output-requires Inv-loop μ-loop
-output-requires c κs = search needs
-
-array-share-prefix-text : tie.Need-array-share-prefix-text Inv-loop μ-loop
-array-share-prefix-text c = output-inside _ _ _ _ (c .output .ensures)
-
-slice-aggregate-write-next : tie.Need-slice-aggregate-write-next Inv-loop μ-loop
-slice-aggregate-write-next c = sym (length-take-le _ _ (output-inside _ _ _ _ (c .before .output .ensures)))
-
-write-next-requires : tie.Need-write-next-requires Inv-loop μ-loop
-write-next-requires c κs = search needs
+served-requires : tie.Need-served-requires Inv-loop μ-loop
+served-requires c κs = search needs
 
 returns-2 : tie.Need-returns-2 Inv-loop μ-loop
 returns-2 c = search needs
@@ -80,11 +68,8 @@ main-spec =
     read-next-requires
     returns
     array-share-prefix-record
-    slice-aggregate-output
-    output-requires
-    array-share-prefix-text
-    slice-aggregate-write-next
-    write-next-requires
+    slice-aggregate-served
+    served-requires
     returns-2
     loop-less
     loop-again

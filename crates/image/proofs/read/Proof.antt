@@ -1,13 +1,14 @@
 -- `image::read` meets its contract: 16, then 1, and else the map. Assumes nothing.
 use mathlib.Core.Path.{sym, ap, _∙_}
 use Prim.Native.Nat.{ℕ}
-use borrow.Author.Tests.{not-true, not-false}
+use borrow.Author.Tests.{not-true}
 use Rattle.answers.specs.Said.{value, refused}
 use Rattle.answers.specs.Answers.{ok}
 use Rattle.slots.specs.Sets.{none}
 use Rattle.tree.specs.Layout.{ofSlots}
 use Rattle.image.specs.Image.{heldIn}
-use Rattle.image.proofs.Outcomes.{refused-so, counted-so, counted-of, read-none, read-unsound, read-sound, an-image, long}
+use Rattle.tree.specs.Demands.{refused-unsound, counted-sound}
+use Rattle.image.proofs.Outcomes.{counted-of, read-none, read-unsound, read-sound, an-image, long}
 use borrow.Author.Needs.{needs}
 use Rattle.image.proofs.read.Statement.{statement}
 use Rattle.image.proofs.read.Tie as tie
@@ -45,7 +46,7 @@ returns-2 c =
     let passed = held .before in
     let tested = passed .before in
     let bytes = tested .before .before .args .image .now in
-    let so = refused-so (heldIn bytes) (counted .used .result) (counted-of _ _ (counted .used .result) (held .held .ensures) (counted .used .ensures)) _ (c .before .before .counted .given .1) in
+    let so = refused-unsound (heldIn bytes) (counted .used .result) (counted-of _ _ (counted .used .result) (held .held .ensures) (counted .used .ensures)) _ (c .before .before .counted .given .1) in
     c .unread2 .ensures
     ∙ ap (λ (k : ℕ). (refused k, ofSlots none)) (so .1)
     ∙ sym (read-unsound bytes (an-image bytes _ (tested .is-image .ensures) (passed .if1 .left)) (so .0))
@@ -60,7 +61,7 @@ returns-3 c =
     let passed = held .before in
     let tested = passed .before in
     let bytes = tested .before .before .args .image .now in
-    let so = counted-so (heldIn bytes) (counted .used .result) (counted-of _ _ (counted .used .result) (held .held .ensures) (counted .used .ensures)) _ (c .enum-told .given .1) in
+    let so = counted-sound (heldIn bytes) (counted .used .result) (counted-of _ _ (counted .used .result) (held .held .ensures) (counted .used .ensures)) _ (c .enum-told .given .1) in
     (λ i. (value ok, held .held .ensures i)) ∙ sym (read-sound bytes (an-image bytes _ (tested .is-image .ensures) (passed .if1 .left)) (so .0))
 
 pub read-spec : {M : Type 1} → statement M

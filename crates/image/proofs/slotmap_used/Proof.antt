@@ -4,7 +4,7 @@ use mir.Syntax.{w32}
 use mir.ValLaws.{toZ-pos, toZ-ofZ}
 use borrow.Author.Needs.{needs}
 use Rattle.image.specs.Contracts.{used}
-use Rattle.image.proofs.Outcomes.{told-none, long, told-count, counted-so}
+use Rattle.image.proofs.Outcomes.{told-none, long, told-count, count-fits}
 use Rattle.image.proofs.slotmap_used.Statement.{statement}
 use Rattle.image.proofs.slotmap_used.Tie as tie
 
@@ -30,7 +30,7 @@ enum-known-counted c = search needs
 cast-result : tie.Need-cast-result
 cast-result c =
     let counted = c .before .before .before in
-    record { sfits = counted-so (counted .before .held .result) _ (counted .used .ensures) _ (c .before .counted .given .1) .1 }
+    record { sfits = count-fits (counted .before .held .result) _ (counted .used .ensures) _ (c .before .counted .given .1) }
 
 enum-known-counted-2 : tie.Need-enum-known-counted-2
 enum-known-counted-2 c = search needs

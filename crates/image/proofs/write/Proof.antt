@@ -3,7 +3,8 @@ use mathlib.Core.Path.{sym, ap, _∙_}
 use Prim.Native.Nat.{ℕ}
 use Rattle.answers.specs.Said.{value, refused}
 use Rattle.answers.specs.Answers.{ok}
-use Rattle.image.proofs.Outcomes.{refused-so, counted-so, write-short, write-unsound, write-sound}
+use Rattle.tree.specs.Demands.{refused-unsound, counted-sound}
+use Rattle.image.proofs.Outcomes.{write-short, write-unsound, write-sound}
 use borrow.Author.Needs.{needs}
 use Rattle.image.proofs.write.Statement.{statement}
 use Rattle.image.proofs.write.Tie as tie
@@ -24,7 +25,7 @@ returns-2 c =
     let counted = c .before .before .before in
     let tested = counted .before in
     let asked = tested .before .before .args in
-    let so = refused-so (asked .map) _ (counted .used .ensures) _ (c .before .counted .given .1) in
+    let so = refused-unsound (asked .map) _ (counted .used .ensures) _ (c .before .counted .given .1) in
     ap (λ (k : ℕ). (refused k, asked .image .now)) (so .1) ∙ sym (write-unsound (asked .map) (asked .image .now) (tested .if1 .left) (so .0))
 
 enum-told : tie.Need-enum-told
@@ -43,7 +44,7 @@ returns-3 c =
     let tested = counted .before in
     let asked = tested .before .before .args in
     (λ i. (value ok, c .before .before .put .ensures i))
-    ∙ sym (write-sound (asked .map) (asked .image .now) (tested .if1 .left) (counted-so (asked .map) _ (counted .used .ensures) _ (told .enum-told .given .1) .0))
+    ∙ sym (write-sound (asked .map) (asked .image .now) (tested .if1 .left) (counted-sound (asked .map) _ (counted .used .ensures) _ (told .enum-told .given .1) .0))
 
 pub write-spec : {M : Type 1} → statement M
 write-spec =

@@ -1,19 +1,20 @@
 -- `rows::first_free` meets its contract: each slot passed is used, or lies in a word that is marked (`Searching`), and each other word is asked once. Assumes
 -- nothing.
-use mathlib.Core.Path.{_≡_, sym, ap, subst, _∙_}
+use mathlib.Core.Path.{_≡_, refl, sym, ap, subst, _∙_}
 use mathlib.Core.Logic.{⊎-elim}
 use mathlib.Core.Bool.{true}
 use mathlib.Core.List.{List}
 use Prim.Native.Nat.{ℕ, _+_, _-_, _*_, _/_, _<_, _≤_}
 use native.Mathlib.Nat.{le-refl, le-of-lt, min-eq-left, min-eq-right}
 use native.Mathlib.Omega.{arith}
+use lib.ListN.{getD}
 use borrow.Author.Needs.{needs}
 use borrow.Author.Tests.{not-true, not-false}
 use Rattle.slots.specs.Sets.{Slots}
 use Rattle.slots.specs.Lowest.{freeFrom}
-use Rattle.views.specs.Painting.{slotsIn, slotIn, slots-most, slot-past, word-there}
+use Rattle.views.specs.Painting.{slotsIn, slotIn, slots-most, word-there}
 use Rattle.views.specs.Full.{marked, filled, filled-slots, filled-open, filled-marked, filled-used, seenFrom}
-use Rattle.rows.proofs.Reasons.{Passed, passed-none, passed-on, passed-found, passed-all, far-from, open-later, open-most, Searching, searching-on, seen-filled, seen-here, used-inside, word-full, word-has, word-from, word-free}
+use Rattle.rows.proofs.Reasons.{Passed, passed-none, passed-on, passed-found, passed-all, far-from, open-later, open-most, Searching, searching-on, seen-filled, seen-here, used-inside, word-full, word-has, word-from, word-stops}
 use Rattle.rows.proofs.first_free.Statement.{statement}
 use Rattle.rows.proofs.first_free.Tie as tie
 
@@ -121,14 +122,15 @@ returns-3 c =
     let fulls = fulls-at h in
     let start = h .loop .start in
     let place = asking .first-free .result in
+    let word = getD words (start / 64) 0 in
     let here = asking .first-free .ensures in
     let unmarked = sym (told .marked .ensures) ∙ not-true _ (c .if4 .taken) in
     let found = start / 64 * 64 + place in
     let same : found / 64 ≡ start / 64 = omega (arith, left .if3 .taken) in
-    answer-at h found (passed-found (seen-at h) (from-at h) start (passed-at test) found (word-from words start place (inside test) here)
+    answer-at h found (passed-found (seen-at h) (from-at h) start (passed-at test) found (word-from true words start word place (inside test) (λ p l. refl) here)
     (omega (arith, within test, slots-most words, left .if3 .taken))
-    (filled-open words fulls found (ap (marked fulls) same ∙ unmarked) ∙ word-free words start place (inside test) here (left .if3 .taken))
-    (λ p l b. filled-used words fulls p (omega (arith, within test, left .if3 .taken)) (word-has words start place (inside test) here (left .if3 .taken) p l b)))
+    (filled-open words fulls found (ap (marked fulls) same ∙ unmarked) ∙ word-stops true words start word place (inside test) (λ p l. refl) here (left .if3 .taken))
+    (λ p l b. filled-used words fulls p (omega (arith, within test, left .if3 .taken)) (word-has true words start word place (inside test) (λ p l. refl) here (left .if3 .taken) p l b)))
 
 -- ---- where the ways meet: no slot of the word counts as free
 
@@ -165,7 +167,7 @@ loop-again c =
     let none : (p : ℕ) → start ≤ p → p < (i + 1) * 64 → slotIn (seen-at h) p ≡ true =
     λ p l b. let there : p < slotsIn words = omega (arith, within test) in
     ⊎-elim (λ w. let same : p / 64 ≡ i = omega arith in filled-marked words fulls p there (ap (marked fulls) same ∙ sym (w .1 .ensures) ∙ not-false _ (w .2 .left)))
-    (λ w. filled-used words fulls p there (word-full words start (asking .first-free .result) (inside test) (asking .first-free .ensures) (w .left) p l b)) (joined .if3 .came) in (
+    (λ w. filled-used words fulls p there (word-full true words start (getD words i 0) (asking .first-free .result) (inside test) (λ q b. refl) (asking .first-free .ensures) (w .left) p l b)) (joined .if3 .came) in (
       omega (arith, c .next-open .ensures, open-most fulls (i + 1) (near-at test)),
       searching-on words fulls (from-at h) (i + 1) _
           (passed-on (seen-at h) (from-at h) start (passed-at test) ((i + 1) * 64) (omega arith) (omega (arith, within test, slots-most words)) none)

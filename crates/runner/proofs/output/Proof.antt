@@ -13,7 +13,8 @@ use Rattle.answers.specs.declared.Refusal.{Refusal}
 use Rattle.answers.specs.declared.Number.{Number}
 use Rattle.answers.specs.declared.Number.the-variants.{Is, Refused}
 use Rattle.bits.specs.Range.{either}
-use Rattle.report.specs.Report.{bigWord, end, ran, ran-too-long, ran-accepted, RunSays, output-big, output-report, OutputSays}
+use Rattle.texts.specs.Texts.{end}
+use Rattle.report.specs.Report.{bigWord, ran, ran-too-long, ran-accepted, RunSays, output-big, output-report, OutputSays}
 use Rattle.bits.specs.Buffers.{putAt}
 use Rattle.runner.proofs.output.Statement.{statement}
 use Rattle.runner.proofs.output.Tie as tie

@@ -6,7 +6,7 @@ use native.Mathlib.Nat.{pow-suc, mod-lt, mod-eq-of-lt, div-lt-iff-lt-mul, le-div
 use native.Mathlib.Omega.{arith}
 use borrow.Author.Tests.{lt-ltb}
 use Rattle.io.specs.Digits.{glyph, digits, Fewest}
-use Rattle.report.specs.Report.{decimalWithin, decimal, decimal-digit, decimal-tens}
+use Rattle.texts.specs.Decimal.{decimalWithin, decimal, decimal-digit, decimal-tens}
 
 ten-pos : 0 < 10
 ten-pos = zero-lt-suc 9

@@ -1,0 +1,5 @@
+pub mod Lines
+pub mod Limits
+pub mod Contracts
+pub mod Inner
+pub mod Demands
