@@ -16,10 +16,11 @@ use Rattle.answers.specs.declared.Number.{Number}
 use Rattle.bits.specs.Range.{either}
 use Rattle.slots.specs.Sets.{none}
 use Rattle.slots.specs.Calls.{usedCall}
-use Rattle.slots.specs.Plain.{Asked}
+use Rattle.slots.specs.Plain.{Asked, callOf}
+use Rattle.slots.specs.View.{changed-sound}
 use Rattle.slots.specs.Series.{made, answersOf, lastOf, recordOf, beforeOf, Back, walked-back}
 use Rattle.tree.specs.declared.Tree.{Tree}
-use Rattle.tree.specs.Layout.{treeView, slotOf, treeCalls}
+use Rattle.tree.specs.Layout.{treeView, slotOf, treeCalls, Sound}
 use Rattle.report.specs.Fields.{Field, call, skip, bad, cut, fields}
 use Rattle.report.specs.Report.{Line, said, skipped, stopped, short, used, carried, linesOf, leftBy, emptyTree, reportOf, leftOf, over, ran, RunSays, ranMap, RunMapSays, outputOf, output-big, output-report, OutputSays}
 use Rattle.report.specs.Limits.{report-fits}
@@ -147,11 +148,26 @@ unfolding linesOf
 last-counts t [] line = refl
 last-counts t (field ∷ rest) line = last-counts (carried t field .1) rest (carried t field .0)
 
+-- every field leaves a sound tree sound
+pub carried-sound : (t : Tree) (field : Field) → Sound t → Sound (carried t field .1)
+carried-sound t (call asked) sound = changed-sound treeView t (callOf 10 (slotOf t) asked) sound (λ a said. tt)
+carried-sound t skip sound = sound
+carried-sound t bad sound = sound
+carried-sound t cut sound = sound
+
+fields-sound : (t : Tree) (fs : List Field) → Sound t → Sound (leftBy t fs)
+fields-sound t [] sound = sound
+fields-sound t (field ∷ rest) sound = fields-sound (carried t field .1) rest (carried-sound t field sound)
+
 -- ---- of the runner, which starts from the empty tree
 
 module _ (bytes : List ℕ) where
   abbrev pub asked : List Asked
   asked = callsOf (fields bytes)
+
+  -- the map that a record leaves is sound
+  pub left-sound : Sound (leftOf bytes)
+  left-sound = fields-sound emptyTree (fields bytes) (treeView .made-sound none tt)
 
   pub run-answers : saidIn (linesOf emptyTree (fields bytes)) ≡ answersOf treeView treeCalls emptyTree asked
   run-answers = lines-answer emptyTree (fields bytes)

@@ -12,16 +12,16 @@ use Rattle.answers.specs.declared.Number.{Number}
 use Rattle.answers.specs.declared.Number.the-variants.{Is, Refused}
 use Rattle.slots.specs.Sets.{none}
 use Rattle.slots.specs.Calls.{says, usedCall}
-use Rattle.slots.specs.View.{changed-sound, sound-answers}
-use Rattle.slots.specs.Plain.{callOf}
+use Rattle.slots.specs.View.{sound-answers}
 use Rattle.tree.specs.declared.Tree.{Tree}
 use Rattle.tree.specs.Layout.{treeView, slotOf, ofSlots, Sound}
 use Rattle.tree.specs.Contracts.{UsedSays}
 use Rattle.runner.specs.declared.Step.{Step}
 use Rattle.runner.specs.declared.fields.Piece.{Piece}
-use Rattle.report.specs.Fields.{Field, call, skip, bad, cut, firstField, fields, fields-none, fields-first}
+use Rattle.report.specs.Fields.{firstField, fields, fields-none, fields-first}
 use Rattle.report.specs.Report.{used, written, carried, reportFrom, report-end, report-reads, reportOf, leftBy, leftOf, over, ranMap, map-accepted}
 use Rattle.report.specs.Limits.{report-fits}
+use Rattle.report.specs.Demands.{carried-sound}
 use Rattle.bits.specs.Buffers.{putAt, put-length}
 use Rattle.runner.specs.Inner.{lineSays, fieldSays, PieceSays, StepSays, put-over}
 
@@ -37,13 +37,6 @@ pub record Running (bytes before : List ℕ) (map : Tree) (next end : ℕ) (repo
   -- what was judged before the loop
   pub limit : length bytes ≤ 32768
   pub room : 54624 ≤ length before
-
--- every field leaves a sound tree sound
-carried-sound : (t : Tree) (field : Field) → Sound t → Sound (carried t field .1)
-carried-sound t (call asked) sound = changed-sound treeView t (callOf 10 (slotOf t) asked) sound (λ a said. tt)
-carried-sound t skip sound = sound
-carried-sound t bad sound = sound
-carried-sound t cut sound = sound
 
 over-length : (text before : List ℕ) → length text ≤ length before → length (over text before) ≡ length before
 over-length text before fits = simp (length-append, length-drop) (omega arith)
