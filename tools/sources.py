@@ -499,8 +499,8 @@ class Crates:
         self.crates = {path.split("/")[1] for path in texts}
         self.sources = {path: readers[path.split("/")[2]](path, text) for path, text in texts.items()}
         self.types = {(*module_of(one.path), one.name): one for one in self.declared_in("src")}
-        self.headers = {source.path: self.header(source) for place in ("src", "specs") for source in self.of(place)}
-        for one in self.declared_in("specs"):
+        self.headers = {source.path: self.header(source) for source in [*self.of("src"), *self.of("specs"), *self.lemmas()]}
+        for one in [*self.declared_in("specs"), *self.declared_in_lemmas()]:
             one.kind = self.kind_of(one)
 
     def of(self, place):
@@ -508,6 +508,19 @@ class Crates:
 
     def declared_in(self, place):
         return [one for source in self.of(place) for one in source.declarations]
+
+    def lemmas(self):
+        """The files right in proofs/: laws that are proved above specs/, and lemmas. What stands in a folder there is of one
+        function."""
+        return [source for source in self.of("proofs") if source.path.count("/") == 3]
+
+    def declared_in_lemmas(self):
+        return [one for source in self.lemmas() for one in source.declarations]
+
+    def laws(self):
+        """The laws of specs/, and those right in proofs/."""
+        every = [*self.declared_in("specs"), *self.declared_in_lemmas()]
+        return [one for one in every if one.kind == LAW]
 
     def libraries(self):
         """The sources in src/ of the crates that are libraries."""
@@ -526,6 +539,9 @@ class Crates:
         if not self.is_ours(module):
             return None
         _, crate, *parts = module.split(".")
+        if parts[:1] == ["proofs"]:
+            source = self.sources.get(f"crates/{crate}/{'/'.join(parts)}.antt")
+            return source.declarations if source else None
         if parts[:2] == ["specs", "declared"]:
             found = self.types.get((crate, *(part for part in parts[2:] if part != "TheVariants")))
             return [found] if found else None
@@ -537,6 +553,10 @@ class Crates:
         if not self.is_ours(one.module):
             return {name: None for name in one.names}
         declarations = self.behind(one.module)
+        if source.place == "proofs":
+            # what Rattle makes of the code, as goals, has a module too, and a file may hand on what it imports
+            known = {name: declared for declared in declarations or [] for name in [declared.name, *declared.inside]}
+            return {here: known.get(there) for here, there in one.names.items()}
         if declarations is None:
             raise Wrong(f"{source.path} imports {one.module}, and specs/ has no such file, nor src/ such a type")
         known = {name: declared for declared in declarations for name in [declared.name, *declared.inside]}
