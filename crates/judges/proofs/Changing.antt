@@ -32,8 +32,8 @@ module _ (k : ℕ) (S : Slots) (s n : ℕ) (v : Bool) where
       decides : says (change_call v k S s n) ≡ judged ((unready_for v when not flag) ∷ []) ok
       decides = says_both ∙ passed_on (range_checks k s n) range told kept _ ok ∙ ap (λ (b : Bool). judged ((unready_for v when not b) ∷ []) ok) (sym shown)
 
-      pub slots_refuse : not flag ≡ true → says (change_call v k S s n) ≡ refused (unready_for v)
-      slots_refuse e = decides ∙ judged_found (unready_for v) _ ok e
+      pub slots_refuse : flag ≡ false → says (change_call v k S s n) ≡ refused (unready_for v)
+      slots_refuse e = decides ∙ judged_found (unready_for v) _ ok (ap not e)
 
-      pub slots_pass : not flag ≡ false → says (change_call v k S s n) ≡ value ok
-      slots_pass e = decides ∙ judged_passed (unready_for v) _ ok e
+      pub slots_pass : flag ≡ true → says (change_call v k S s n) ≡ value ok
+      slots_pass e = decides ∙ judged_passed (unready_for v) _ ok (ap not e)
