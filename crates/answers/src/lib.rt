@@ -1,5 +1,7 @@
 // What a call answers: document 01's refusals by name, and the answers that several crates give.
 // Rests on nothing.
+#![tactic(auto)]
+
 ghost use Rattle.answers.specs.Refusals.{NumberSays};
 
 // Why a call was refused, in the order of document 01's numbers, 1 to 12.

@@ -5,6 +5,7 @@
 // claim, free, set, next_free, get, empty and used refuse any other with 1, before all else. Capacity,
 // and what makes a tree or reads its words and its fields, answer for every tree. Rests on `judges` and
 // `rows`.
+#![tactic(auto)]
 
 ghost use Rattle.tree.specs.Says.{NewEmptySays, NewFullSays, HoldingSays, WithSummarySays, WithFullSays, WithCountSays, WordsSays, SummarySays, FullSays, CountSays, TakeSays, ClaimSays, FreeSays, SetSays, NextFreeSays, GetSays, EmptySays, UsedSays, CapacitySays, StoredOfSays, SoundSays};
 ghost use Rattle.answers.specs.Answers.{left_by};
