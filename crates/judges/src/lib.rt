@@ -15,7 +15,7 @@ ghost use Rattle.std.specs.Prelude.{◌≡◌, ◌≤◌, ◌<◌, ◌^◌};
 use answers::{Answer, NextFree, Refusal, Truth};
 
 // How large a map is: 2^6 slots, 2^10 or 2^14.
-#[derive(Drop)]
+#[derive(Clone, Copy)]
 pub enum Size {
     Word,
     Tree,

@@ -20,7 +20,7 @@ use rows::{FULL, SHIFTS, TABLE, USED};
 
 // What is stored beside the words of a tree: bit i of the summary is 1 exactly if word i is not 0, bit i
 // of the mark of full words exactly if word i is all ones; and the count of used slots.
-#[derive(Drop)]
+#[derive(Clone, Copy)]
 pub struct Stored {
     pub summary: u16,
     pub full: u16,
@@ -28,7 +28,7 @@ pub struct Stored {
 }
 
 // Slot s is bit s % 64 of word s / 64; 1 means used.
-#[derive(Drop)]
+#[derive(Clone, Copy)]
 pub struct Tree {
     words: [u64; 16],
     summary: u16,
