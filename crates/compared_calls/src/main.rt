@@ -1,6 +1,8 @@
 // Single calls, for comparisons with the original: a request names a call, its numbers and the map
 // that it is made on, and the answer has what was said and the map that is left (`image`). It ends
 // with its input.
+#![tactic(auto)]
+
 mod image;
 mod numbers;
 mod said;

@@ -1,6 +1,8 @@
 // Single calls on jobs, for comparisons: a request names a call, its numbers and the state that it is
 // made on, and the answer has what was said and the state that is left (`image`). It ends with its
 // input.
+#![tactic(auto)]
+
 mod image;
 mod said;
 

@@ -2,6 +2,8 @@
 // in four bytes, low byte first, and what the program slotgaps would write for it, which begins with
 // what slotmap would, goes to standard output in the same way. It ends with its input, or where a record
 // is longer than it can hold.
+#![tactic(auto)]
+
 ghost use Rattle.std.specs.Prelude.{◌≤◌, ◌<◌, length};
 
 use answers::Number;

@@ -3,6 +3,8 @@
 // Write and read turn a map into an image and back. Take, free and used are exported to C, each on an
 // image that the host lends, and answer one signed number. What a tree stores beside its summary is no
 // part of an image and is worked out from the words. Rests on `tree`.
+#![tactic(auto)]
+
 mod fields;
 mod numbers;
 

@@ -4,6 +4,7 @@
 // is and each reaped slot is used. Start, reap, record, state, empty and used refuse any other with 1,
 // before all else. Capacity, and what makes a state or reads its fields, answer for every state. There
 // is no plain free, claim or set, and no way to the tree inside. Rests on `tree`, `judges` and `rows`.
+#![tactic(auto)]
 
 ghost use Rattle.std.specs.Prelude.{◌≡◌, length};
 ghost use Rattle.answers.specs.Said.{value};

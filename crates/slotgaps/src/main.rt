@@ -4,6 +4,8 @@
 // What these are is `runner`'s and `gap_report`'s; this reads and writes. A read that fails leaves no
 // report, and a write that fails may leave a part of it: each is told on standard error. What is whole
 // ends in a line `free slots`, or is the line `big`.
+#![tactic(auto)]
+
 ghost use Rattle.std.specs.Prelude.{◌≤◌, length};
 
 use answers::Number;

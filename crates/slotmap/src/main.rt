@@ -2,6 +2,8 @@
 // where the record is too long. What a report is, and that it fits, is the runner's; this reads and
 // writes. A read that fails leaves no report, and a write that fails may leave a part of one: each is
 // told on standard error. A whole report ends in a line `used`, or is the line `big`.
+#![tactic(auto)]
+
 ghost use Rattle.std.specs.Prelude.{◌≤◌, length};
 
 use libc::{STDIN_FILENO, STDOUT_FILENO};
