@@ -62,7 +62,7 @@ pub enum State {
 
 // The tree has the used slots, which are those that run and those that are reaped. In the words beside
 // it slot s is bit s % 64 of word s / 64; 1 means reaped.
-#[derive(Drop)]
+#[derive(Clone, Copy)]
 pub struct Jobs {
     tree: Tree,
     reaped: [u64; 16],

@@ -16,7 +16,7 @@ pub fn put(buffer: &mut [u8], at: usize, words: &[u8]) -> usize
         return at;
     }
     let end = at + words.len();
-    bytes::copy(words, &mut buffer[at..end]);
+    buffer[at..end].copy_from_slice(words);
     end
 }
 

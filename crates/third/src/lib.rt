@@ -26,7 +26,7 @@ use tree::Stored;
 
 // Slot s is bit s % 64 of word s / 64; 1 means used. Tree i is the words from 16 * i on, with summary i,
 // mark of full words i and count i.
-#[derive(Drop)]
+#[derive(Clone, Copy)]
 pub struct Third {
     words: [u64; 256],
     summaries: [u16; 16],

@@ -11,7 +11,7 @@ use judges::Size;
 use rows::{SHIFTS, TABLE};
 
 // Slot i is bit i; 1 means used.
-#[derive(Drop)]
+#[derive(Clone, Copy)]
 pub struct Word {
     bits: u64,
 }
