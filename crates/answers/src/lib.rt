@@ -1,9 +1,11 @@
 // What a call answers: document 01's refusals by name, and the answers that several crates give.
 // Rests on nothing.
+#![tactic(auto)]
+
 ghost use Rattle.answers.specs.Refusals.{NumberSays};
 
 // Why a call was refused, in the order of document 01's numbers, 1 to 12.
-#[derive(Drop)]
+#[derive(Clone, Copy)]
 pub enum Refusal {
     // 1: the tree's summary is at odds with its words.
     Unsound,
@@ -76,7 +78,7 @@ pub enum Truth {
 
 // What a change of a map comes to: the start of the run that was taken, or that it is done, or the
 // refusal.
-#[derive(Drop)]
+#[derive(Clone, Copy)]
 pub enum Answer {
     At(usize),
     Done,
@@ -91,7 +93,7 @@ pub enum NextFree {
 }
 
 // So many slots side by side, from a start on.
-#[derive(Drop)]
+#[derive(Clone, Copy)]
 pub struct Run {
     pub start: usize,
     pub length: usize,

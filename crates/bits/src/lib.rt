@@ -1,5 +1,7 @@
 // Bit fields of 64-bit numbers: the lowest places, one place, the places from one to another.
 // A place is counted from the lowest, 0, to the highest, 63. Rests on `answers`.
+#![tactic(auto)]
+
 ghost use Rattle.std.specs.Prelude.{◌≡◌, min};
 ghost use Rattle.bits.specs.Masks.{LowMaskSays, OneBitSays, MaskSays};
 

@@ -1,5 +1,7 @@
 // The examples of document 01 that are run, each printed with its answer, and the edges of every
 // public function beside them. A program that shares nothing with this one prints the same lines.
+#![tactic(auto)]
+
 mod asked;
 mod edges;
 mod images;

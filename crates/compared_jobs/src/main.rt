@@ -1,33 +1,48 @@
 // Single calls on jobs, for comparisons: a request names a call, its numbers and the state that it is
 // made on, and the answer has what was said and the state that is left (`image`). It ends with its
 // input.
+#![tactic(auto)]
+
 mod image;
 mod said;
 
 use jobs::{Changed, Jobs};
-use libc::{STDIN_FILENO, STDOUT_FILENO};
+use std::io;
+use std::io::{ErrorKind, Read};
 
-fn main() {
+fn main(rt: HostRuntime) -> io::Result<()> {
+    let mut input = rt.stdin();
     let mut request = [0u8; 304];
     // A loop has to end, and no run uses up so many turns.
-    let mut turns = u64::MAX;
-    while turns > 0 {
-        turns -= 1;
-        if io::read_full(STDIN_FILENO, &mut request) < 304 {
-            return;
+    for _ in 0..u64::MAX {
+        if !filled(&mut input, &mut request)? {
+            return Ok(());
         }
-        if !served(&request) {
-            return;
+        served(&rt, &request)?;
+    }
+    Ok(())
+}
+
+// Fills the buffer from the input; whether the input had so many bytes left.
+fn filled(input: &mut impl Read, buffer: &mut [u8]) -> io::Result<bool> {
+    match input.read_exact(buffer) {
+        Ok(()) => Ok(true),
+        Err(why) => {
+            if why.kind() == ErrorKind::UnexpectedEof {
+                Ok(false)
+            } else {
+                Err(why)
+            }
         }
     }
 }
 
-// Answers a request. Whether there is more to answer: not where the output has ended.
-fn served(request: &[u8; 304]) -> bool {
+// Answers a request.
+fn served(rt: &impl Print, request: &[u8; 304]) -> io::Result<()> {
     let asked = image::numbers(request);
     let told = answered(&asked);
     let answer = image::bytes(&told);
-    io::write_all(STDOUT_FILENO, &answer)
+    rt.write_all(&answer)
 }
 
 // The calls: 1 start, 2 reap, 3 record, 4 state, 5 empty, 6 used, 7 capacity. Any other makes the empty

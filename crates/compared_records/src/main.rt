@@ -2,10 +2,13 @@
 // in four bytes, low byte first, and what the program slotgaps would write for it, which begins with
 // what slotmap would, goes to standard output in the same way. It ends with its input, or where a record
 // is longer than it can hold.
-ghost use Rattle.std.specs.Prelude.{◌≤◌, ◌<◌, length};
+#![tactic(auto)]
+
+ghost use Rattle.std.specs.Prelude.{◌≤◌, ◌<◌, length, IfOk};
 
 use answers::Number;
-use libc::{STDIN_FILENO, STDOUT_FILENO};
+use std::io;
+use std::io::{ErrorKind, Read};
 use tree::Tree;
 
 // How long the next record is, or that there is none.
@@ -15,80 +18,96 @@ struct Next {
     ended: bool,
 }
 
-fn main() {
-    let mut record = io::large_buffer();
+fn main(rt: HostRuntime) -> io::Result<()> {
+    let mut input = rt.stdin();
+    let mut record = [0u8; 65536];
     // A loop has to end, and no run uses up so many turns.
-    let mut turns = u64::MAX;
-    while turns > 0 {
-        turns -= 1;
-        let next = read_next(&mut record);
+    for _ in 0..u64::MAX {
+        let next = read_next(&mut input, &mut record)?;
         if next.ended {
-            return;
+            return Ok(());
         }
         let count = next.count;
-        if !served(&record[..count]) {
-            return;
+        if !served(&rt, &record[..count])? {
+            return Ok(());
         }
     }
+    Ok(())
 }
 
-// Writes what slotgaps writes for the record. Whether there is more to answer: not where the output has
-// ended.
-fn served(record: &[u8]) -> bool {
+// Writes what slotgaps writes for the record. Whether there is more to answer: not where the map that is
+// left is refused.
+fn served(rt: &impl Print, record: &[u8]) -> io::Result<bool> {
     let mut report = [0u8; 54624];
     let ran = runner::run_map(record, &mut report);
     let map = ran.map;
     let answer = ran.answer;
     let Number::Is(length) = answer else {
-        return write_next(b"big\n", b"");
+        write_next(rt, b"big\n", b"")?;
+        return Ok(true);
     };
     let end = length as usize;
-    write_with(&report[..end], map)
+    write_with(rt, &report[..end], map)
 }
 
-fn write_with(report: &[u8], map: Tree) -> bool
+fn write_with(rt: &impl Print, report: &[u8], map: Tree) -> io::Result<bool>
     requires { length report.now ≤ 65536 }
 {
     let mut lines = [0u8; 20480];
     let written = gap_report::write(map, &mut lines);
     let Number::Is(length) = written else {
-        return false;
+        return Ok(false);
     };
     let end = length as usize;
-    write_next(report, &lines[..end])
+    write_next(rt, report, &lines[..end])?;
+    Ok(true)
 }
 
-fn read_next(record: &mut [u8]) -> Next
-    ensures { result.count ≤ length «record».old }
+fn read_next(input: &mut impl Read, record: &mut [u8]) -> io::Result<Next>
+    ensures { IfOk result (λ next. next.count ≤ length «record».old) }
 {
     let none = Next {
         count: 0,
         ended: true,
     };
     let mut head = [0u8; 4];
-    if io::read_full(STDIN_FILENO, &mut head) < 4 {
-        return none;
+    if !filled(input, &mut head)? {
+        return Ok(none);
     }
     let count = number(head);
     if record.len() < count {
-        return none;
+        return Ok(none);
     }
-    if io::read_full(STDIN_FILENO, &mut record[..count]) < count {
-        return none;
+    if !filled(input, &mut record[..count])? {
+        return Ok(none);
     }
-    Next {
+    Ok(Next {
         count,
         ended: false,
+    })
+}
+
+// Fills the buffer from the input; whether the input had so many bytes left.
+fn filled(input: &mut impl Read, buffer: &mut [u8]) -> io::Result<bool> {
+    match input.read_exact(buffer) {
+        Ok(()) => Ok(true),
+        Err(why) => {
+            if why.kind() == ErrorKind::UnexpectedEof {
+                Ok(false)
+            } else {
+                Err(why)
+            }
+        }
     }
 }
 
-fn write_next(report: &[u8], lines: &[u8]) -> bool
+fn write_next(rt: &impl Print, report: &[u8], lines: &[u8]) -> io::Result<()>
     requires { (length report.now ≤ 65536) × (length lines.now ≤ 65536) }
 {
     let head = bytes_of(report.len() + lines.len());
-    io::write_all(STDOUT_FILENO, &head)
-        && io::write_all(STDOUT_FILENO, report)
-        && io::write_all(STDOUT_FILENO, lines)
+    rt.write_all(&head)?;
+    rt.write_all(report)?;
+    rt.write_all(lines)
 }
 
 fn number(head: [u8; 4]) -> usize {

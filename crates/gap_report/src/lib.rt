@@ -1,5 +1,7 @@
 // What an operator is shown of a tree who asks why a group won't start: its free runs, its used runs,
 // the longest free run and how many slots are free, a line each. Rests on `gaps` and `texts`.
+#![tactic(auto)]
+
 ghost use Rattle.std.specs.Prelude.{◌≡◌, true, ◌*◌, ◌≤◌, length};
 ghost use Rattle.answers.specs.Answers.{run};
 ghost use Rattle.texts.specs.Texts.{put_all};

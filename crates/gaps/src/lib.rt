@@ -2,6 +2,8 @@
 // possible, lowest first, as start and length in a lent buffer of 16-bit numbers; the longest of them;
 // and its used runs by the same laws. A tree that is not sound is refused with 1, before all else. Rests
 // on `tree` and `rows`.
+#![tactic(auto)]
+
 ghost use Rattle.std.specs.Prelude.{◌≡◌, false, [], ◌∷◌, ◌≤◌, ◌-◌, length};
 ghost use Rattle.bits.specs.Range.{least};
 ghost use Rattle.views.specs.Painting.{slot_in};

@@ -114,13 +114,13 @@ free_short t start n r outcome = short_by r.answer (λ told e.
 
 module _ (bytes : List ℕ) (tested : Bool) (is : tested ≡ is_image bytes) where
   -- it failed: a call for C tells -16 and leaves the bytes
-  pub told_none : not tested ≡ true → (asked : Asked) → ◌≡◌ {A = ℤ × List ℕ} (negsuc 15, bytes) (on_image bytes asked)
-  told_none failed asked = sym (ap told (no_image bytes (call_of bytes asked) (sym is ∙ not-true tested failed)))
+  pub told_none : tested ≡ false → (asked : Asked) → ◌≡◌ {A = ℤ × List ℕ} (negsuc 15, bytes) (on_image bytes asked)
+  told_none failed asked = sym (ap told (no_image bytes (call_of bytes asked) (sym is ∙ failed)))
 
   -- it passed
-  module _ (passed : not tested ≡ false) where
+  module _ (passed : tested ≡ true) where
     pub an_image : is_image bytes ≡ true
-    an_image = sym is ∙ not-false tested passed
+    an_image = sym is ∙ passed
 
     pub long : length bytes ≡ 136
     long = image_long bytes (rw an_image tt)

@@ -3,6 +3,8 @@
 // Write and read turn a map into an image and back. Take, free and used are exported to C, each on an
 // image that the host lends, and answer one signed number. What a tree stores beside its summary is no
 // part of an image and is worked out from the words. Rests on `tree`.
+#![tactic(auto)]
+
 mod fields;
 mod numbers;
 
@@ -104,8 +106,7 @@ fn unread(why: ImageRefusal) -> Reading
 // Takes n slots at the lowest free start that is a multiple of 2^a, and answers that start. Refused, in
 // this order: -16 where the bytes are no image, -1 where its summary is at odds with its words, -2 where
 // n is 0, -3 where a is 10 or more, -4 where n is above 1,024, -7 where no start fits.
-#[unsafe(no_mangle)]
-pub extern "C" fn slotmap_take(image: &mut [u8], n: usize, a: usize) -> i32
+pub fn slotmap_take(image: &mut [u8], n: usize, a: usize) -> i32
     ensures { TakeTells image.old n a result image.new }
 {
     if !fields::is_image(image) {
@@ -118,8 +119,7 @@ pub extern "C" fn slotmap_take(image: &mut [u8], n: usize, a: usize) -> i32
 // Frees the n slots from `start` on, each of which must be used, and answers 0. Refused, in this order:
 // -16, -1, -2 where n is 0, -4 where the range does not end within 1,024 slots, -5 where a slot is free
 // already.
-#[unsafe(no_mangle)]
-pub extern "C" fn slotmap_free(image: &mut [u8], start: usize, n: usize) -> i32
+pub fn slotmap_free(image: &mut [u8], start: usize, n: usize) -> i32
     ensures { FreeTells image.old start n result image.new }
 {
     if !fields::is_image(image) {
@@ -130,8 +130,7 @@ pub extern "C" fn slotmap_free(image: &mut [u8], start: usize, n: usize) -> i32
 }
 
 // How many slots are used. Refused, in this order: -16, -1.
-#[unsafe(no_mangle)]
-pub extern "C" fn slotmap_used(image: &[u8]) -> i32
+pub fn slotmap_used(image: &[u8]) -> i32
     ensures { UsedTells image.now result image.now }
 {
     if !fields::is_image(image) {

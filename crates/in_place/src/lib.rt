@@ -1,6 +1,8 @@
 // The two in-place forms of the tree map: take and free change the caller's map through a lent
 // reference, as the original has it. Each calls the core by value and stores its map; a refused call
 // leaves in the caller's map what it held. Rests on `tree`.
+#![tactic(auto)]
+
 ghost use Rattle.tree.specs.Says.{TakeSays, FreeSays};
 ghost use Rattle.in_place.specs.Says.{TakeInPlaceSays, FreeInPlaceSays};
 

@@ -66,18 +66,18 @@ module _ (tree : Tree) (reaped : List ℕ) where
 
   -- by the flag of a branch on `!flag`: where a reaped slot is not used the state is not sound, and else it is sound as its tree is
   module _ (flag : Bool) (told : flag ≡ reaped_used (slot_of tree) (slot_in reaped) 1024) where
-    pub shown_amiss : not flag ≡ true → jobs_view.is_sound j ≡ false
-    shown_amiss e = ap (λ (b : Bool). tree_view.is_sound tree && b) (sym told ∙ not-true flag e) ∙ and_false (tree_view.is_sound tree)
+    pub shown_amiss : flag ≡ false → jobs_view.is_sound j ≡ false
+    shown_amiss e = ap (λ (b : Bool). tree_view.is_sound tree && b) (sym told ∙ e) ∙ and_false (tree_view.is_sound tree)
 
-    pub shown_kept : not flag ≡ false → jobs_view.is_sound j ≡ tree_view.is_sound tree
-    shown_kept e = ap (λ (b : Bool). tree_view.is_sound tree && b) (sym told ∙ not-false flag e) ∙ and_true (tree_view.is_sound tree)
+    pub shown_kept : flag ≡ true → jobs_view.is_sound j ≡ tree_view.is_sound tree
+    shown_kept e = ap (λ (b : Bool). tree_view.is_sound tree && b) (sym told ∙ e) ∙ and_true (tree_view.is_sound tree)
 
     -- so a call that only asks is refused with 1, or the tree answers it
     module _ {X A : Type 0} (call : Call X A) where
-      pub asked_amiss : not flag ≡ true → refused 1 ≡ answered jobs_view j call
+      pub asked_amiss : flag ≡ false → refused 1 ≡ answered jobs_view j call
       asked_amiss e = sym (found_unsound jobs_view j call (shown_amiss e))
 
-      pub asked_below : not flag ≡ false → answered tree_view tree call ≡ answered jobs_view j call
+      pub asked_below : flag ≡ true → answered tree_view tree call ≡ answered jobs_view j call
       asked_below e = answers_as_tree (shown_kept e) call
 
   -- ---- start
@@ -149,14 +149,14 @@ module _ (tree : Tree) (reaped : List ℕ) where
     abbrev idle : Bool
     idle = not (all_used (running_in (marks_of j)) s n)
 
-    pub idle_unused : (used : Bool) → used ≡ all_used (slot_of tree) s n → not used ≡ true → idle ≡ true
-    idle_unused used told e = rw (all_running s n, sym told ∙ not-true used e)
+    pub idle_unused : (used : Bool) → used ≡ all_used (slot_of tree) s n → used ≡ false → idle ≡ true
+    idle_unused used told e = rw (all_running s n, sym told ∙ e)
 
-    pub idle_reaped : (free : Bool) → free ≡ all_free (slot_in reaped) s n → not free ≡ true → idle ≡ true
-    idle_reaped free told e = ap not (all_running s n ∙ ap (λ (b : Bool). all_used (slot_of tree) s n && b) (sym told ∙ not-true free e) ∙ and_false (all_used (slot_of tree) s n))
+    pub idle_reaped : (free : Bool) → free ≡ all_free (slot_in reaped) s n → free ≡ false → idle ≡ true
+    idle_reaped free told e = ap not (all_running s n ∙ ap (λ (b : Bool). all_used (slot_of tree) s n && b) (sym told ∙ e) ∙ and_false (all_used (slot_of tree) s n))
 
-    pub none_idle : (used free : Bool) → used ≡ all_used (slot_of tree) s n → free ≡ all_free (slot_in reaped) s n → not used ≡ false → not free ≡ false → idle ≡ false
-    none_idle used free told also e f = rw (all_running s n, sym told ∙ not-false used e, sym also ∙ not-false free f)
+    pub none_idle : (used free : Bool) → used ≡ all_used (slot_of tree) s n → free ≡ all_free (slot_in reaped) s n → used ≡ true → free ≡ true → idle ≡ false
+    none_idle used free told also e f = rw (all_running s n, sym told ∙ e, sym also ∙ f)
 
     -- the checks that come first have been judged, and reap's own or record's decides
     module _ (range : Answer) (told : answer_says range ≡ answered jobs_view j (range_call s n)) where

@@ -4,6 +4,7 @@
 // is and each reaped slot is used. Start, reap, record, state, empty and used refuse any other with 1,
 // before all else. Capacity, and what makes a state or reads its fields, answer for every state. There
 // is no plain free, claim or set, and no way to the tree inside. Rests on `tree`, `judges` and `rows`.
+#![tactic(auto)]
 
 ghost use Rattle.std.specs.Prelude.{◌≡◌, length};
 ghost use Rattle.answers.specs.Said.{value};
@@ -61,7 +62,7 @@ pub enum State {
 
 // The tree has the used slots, which are those that run and those that are reaped. In the words beside
 // it slot s is bit s % 64 of word s / 64; 1 means reaped.
-#[derive(Drop)]
+#[derive(Clone, Copy)]
 pub struct Jobs {
     tree: Tree,
     reaped: [u64; 16],

@@ -21,7 +21,8 @@ module _ (k : ℕ) (S : Slots) (s n : ℕ) (v : Bool) where
   -- the range's checks, and then the slots'
   says_both : says (change_call v k S s n) ≡ judged (range_checks k s n ++ ((unready_for v when not (ready_for v S s n)) ∷ [])) ok
   unfolding says claim_call free_call
-  says_both = elim v [ true ↦ refl | false ↦ refl ]
+  says_both = elim v as (λ (b : Bool). says (change_call b k S s n) ≡ judged (range_checks k s n ++ ((unready_for b when not (ready_for b S s n)) ∷ [])) ok)
+      [ true ↦ refl | false ↦ refl ]
 
   module _ (range : Answer) (told : answer_says range ≡ judged (range_checks k s n) ok) where
     pub range_refuses : (why : Refusal) → range ≡ Refused why → says (change_call v k S s n) ≡ refused (number_of why)
@@ -32,8 +33,8 @@ module _ (k : ℕ) (S : Slots) (s n : ℕ) (v : Bool) where
       decides : says (change_call v k S s n) ≡ judged ((unready_for v when not flag) ∷ []) ok
       decides = says_both ∙ passed_on (range_checks k s n) range told kept _ ok ∙ ap (λ (b : Bool). judged ((unready_for v when not b) ∷ []) ok) (sym shown)
 
-      pub slots_refuse : not flag ≡ true → says (change_call v k S s n) ≡ refused (unready_for v)
-      slots_refuse e = decides ∙ judged_found (unready_for v) _ ok e
+      pub slots_refuse : flag ≡ false → says (change_call v k S s n) ≡ refused (unready_for v)
+      slots_refuse e = decides ∙ judged_found (unready_for v) _ ok (ap not e)
 
-      pub slots_pass : not flag ≡ false → says (change_call v k S s n) ≡ value ok
-      slots_pass e = decides ∙ judged_passed (unready_for v) _ ok e
+      pub slots_pass : flag ≡ true → says (change_call v k S s n) ≡ value ok
+      slots_pass e = decides ∙ judged_passed (unready_for v) _ ok (ap not e)

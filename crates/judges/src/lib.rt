@@ -2,6 +2,8 @@
 // the words, lent, and a size; a size is one case of `Size`. What searches also goes by marks of full
 // words, as `rows` has them: a word that is marked counts as full, whatever it holds. A map puts check 1,
 // whether it is sound, in front. Rests on `rows`.
+#![tactic(auto)]
+
 ghost use Rattle.judges.specs.Sizes.{exponent_of, ExponentSays, CapacitySays};
 ghost use Rattle.answers.specs.Said.{refused};
 ghost use Rattle.answers.specs.Answers.{answer_says};
@@ -13,7 +15,7 @@ ghost use Rattle.std.specs.Prelude.{◌≡◌, ◌≤◌, ◌<◌, ◌^◌};
 use answers::{Answer, NextFree, Refusal, Truth};
 
 // How large a map is: 2^6 slots, 2^10 or 2^14.
-#[derive(Drop)]
+#[derive(Clone, Copy)]
 pub enum Size {
     Word,
     Tree,

@@ -1,6 +1,8 @@
 // What the measurement calls from outside: takes and frees one after the other on a map that is lent as
 // its words, a tree by value and in place, the third level and the word by value; and listings of a
 // tree's runs. Thin: a loop over the calls of `tree`, of `in_place`, of `third`, of `word` and of `gaps`.
+#![tactic(auto)]
+
 ghost use Rattle.std.specs.Prelude.{◌≡◌, true, false};
 ghost use Rattle.answers.specs.Answers.{number_says, longest_run_says};
 ghost use Rattle.measured.specs.Gaps.{ListsSays, LongestSays, count_of, numbers_of};

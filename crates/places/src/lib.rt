@@ -1,6 +1,8 @@
 // What can be done to one word of 64 slots without judging it: masks for a run, are these places all
 // free, all used, paint them, the first free place, the count. Place i, counted from the lowest,
 // holds a 1 where slot i is used. No function refuses; each answers for every input. Rests on `bits`.
+#![tactic(auto)]
+
 ghost use Rattle.std.specs.Prelude.{◌≡◌};
 ghost use Rattle.std.specs.Int.Count.{count_trailing_zeros};
 ghost use Rattle.places.specs.Places.{RunMaskSays, AllFreeSays, AllUsedSays, MarkSays, UnmarkSays, PaintSays, FirstFreeSays, CountSays};

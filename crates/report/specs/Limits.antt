@@ -112,7 +112,7 @@ first_starts : StartsBelow (10 ^ 1) empty_tree
 first_starts n a o e =
     let granted = (take_promise 10 (slot_of empty_tree) n a o).0 (sym (sound_answers tree_view empty_tree _ (tree_view.made_sound none tt)) ∙ e) in
     let inside : n ≤ 1024 = granted.2 in
-    let from_zero : o ≤ 0 = granted.3.Lowest-start 0 (record {
+    let from_zero : o ≤ 0 = granted.3.lowest_start 0 (record {
       aligned = (0, sym (zero-mul (2 ^ a)));
       ends = omega (arith, inside);
       free = λ i h. tree_view.holds none i (omega (arith, inside, h.1));

@@ -10,7 +10,7 @@ use lib.Arith.{bin_ind}
 use lib.Bits.{bit_and, and_step, and_self, and_mask, and_high}
 use lib.Dec.{eqb, eqb→eq, leb}
 use lib.Pow.{pow_pos, pow-add, shr_mod, high_ones, le_ones}
-use borrow.Author.Tests.{eq-eqb, le-leb, lt-leb, not-false}
+use borrow.Author.Tests.{eq-eqb, le-leb, lt-leb}
 use Rattle.answers.specs.Said.{value, refused, Check, ◌when◌, judged}
 use Rattle.bits.specs.Range.{same_test, le_of_not_lt}
 use Rattle.rounding.specs.Powers.{PowerOfTwo, is_power, power_found, power_pos, power_exponent}
@@ -70,17 +70,17 @@ multiple_fits w k m l p h =
 -- ---- the ways out, for a call whose test of the alignment came to `flag`
 
 module _ (w a : ℕ) (held : a < 2 ^ w) (flag : Bool) (tested : flag ≡ is_power w a) where
-  pub refused_alignment : {A : Type 0} (cs : List Check) (x : A) → not flag ≡ true → refused 8 ≡ judged ((8 when not (is_power w a)) ∷ cs) x
+  pub refused_alignment : {A : Type 0} (cs : List Check) (x : A) → flag ≡ false → refused 8 ≡ judged ((8 when not (is_power w a)) ∷ cs) x
   unfolding judged
-  refused_alignment cs x e = rw (ap not (sym tested) ∙ e)
+  refused_alignment cs x e = rw (ap not (sym tested ∙ e))
 
-  module _ (passed : not flag ≡ false) where
+  module _ (passed : flag ≡ true) where
     judged_on : {A : Type 0} (cs : List Check) (x : A) → judged ((8 when not (is_power w a)) ∷ cs) x ≡ judged cs x
     unfolding judged
-    judged_on cs x = rw (ap not (sym tested) ∙ passed)
+    judged_on cs x = rw (ap not (sym tested ∙ passed))
 
     power : PowerOfTwo a
-    power = (power_found w a held).0 (rw (sym tested ∙ not-false flag passed) tt)
+    power = (power_found w a held).0 (rw (sym tested ∙ passed) tt)
 
     pub align_pos : 0 < a
     align_pos = power_pos a power

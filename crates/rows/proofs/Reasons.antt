@@ -562,10 +562,10 @@ module _ (words fulls : List ℕ) (s n : ℕ) where
   seen_slots = slot_in (filled words fulls)
 
   -- a used slot is used in the filled words too
-  pub fits_not : (flag : Bool) → flag ≡ all_free (slot_in words) s n → not flag ≡ true → false ≡ all_free seen_slots s n
+  pub fits_not : (flag : Bool) → flag ≡ all_free (slot_in words) s n → flag ≡ false → false ≡ all_free seen_slots s n
   fits_not flag told e =
       same_test false (all_free seen_slots s n) absurd
-      (λ t. rw (sym told ∙ not-true flag e) at ((finds_all_free (slot_in words) s n).1 (λ p named. free p ((finds_all_free seen_slots s n).0 t p named))))
+      (λ t. rw (sym told ∙ e) at ((finds_all_free (slot_in words) s n).1 (λ p named. free p ((finds_all_free seen_slots s n).0 t p named))))
     where
       free : (p : ℕ) → seen_slots p ≡ false → slot_in words p ≡ false
       free p none =
@@ -589,7 +589,7 @@ module _ (words fulls : List ℕ) (s n : ℕ) where
       held p named at inside = run_has_not false seen_slots s n p named (filled_marked words fulls p inside (ap (marked fulls) at ∙ is))
 
   -- where none of its words is marked, the filled words are free there as the words are
-  pub fits_all : (flag : Bool) → flag ≡ all_free (slot_in words) s n → not flag ≡ false → (i : ℕ) → end_in (slots_in words) s n ≤ i * 64 → UnmarkedTo fulls s i
+  pub fits_all : (flag : Bool) → flag ≡ all_free (slot_in words) s n → flag ≡ true → (i : ℕ) → end_in (slots_in words) s n ≤ i * 64 → UnmarkedTo fulls s i
       → true ≡ all_free seen_slots s n
   unfolding end_in
   fits_all flag told e i ends unmarked = same_test true (all_free seen_slots s n) (λ _. (finds_all_free seen_slots s n).1 free) (λ _. tt)
@@ -599,5 +599,5 @@ module _ (words fulls : List ℕ) (s n : ℕ) where
           either (ltb p (slots_in words))
           (λ t. let inside = ltb-true p (slots_in words) t in
           filled_open words fulls p (unmarked (p / 64) (omega (arith, named.0)) (omega (arith, named.1)))
-          ∙ (finds_all_free (slot_in words) s n).0 (rw (sym told ∙ not-false flag e) tt) p named)
+          ∙ (finds_all_free (slot_in words) s n).0 (rw (sym told ∙ e) tt) p named)
           (λ t. slot_past (filled words fulls) p (rw (filled_slots words fulls) (ltb-false p (slots_in words) t)))

@@ -2,6 +2,8 @@
 // used. What can be done to them without judging it, by the same code for one word, for sixteen and
 // for 256. No function refuses; each answers for every input. No map has more than 256 words: of a
 // longer row the rest is not looked at. Rests on `places`.
+#![tactic(auto)]
+
 ghost use Rattle.std.specs.Prelude.{◌≡◌, ◌≤◌, ◌<◌, ◌*◌, ◌^◌};
 ghost use Rattle.bits.specs.Range.{bit};
 ghost use Rattle.places.specs.Places.{RunMaskSays};

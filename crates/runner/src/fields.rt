@@ -4,7 +4,7 @@ ghost use Rattle.report.specs.Fields.{kind_of, may_hold, field_of, number_at};
 ghost use Rattle.runner.specs.Inner.{kind_says, field_says, PieceSays};
 
 // What a tag asks for.
-#[derive(Drop)]
+#[derive(Clone, Copy)]
 enum Kind {
     Take,
     Claim,

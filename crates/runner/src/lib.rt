@@ -1,6 +1,8 @@
 // The runner: a record of calls in, a report out, over lent slices. It starts from an empty tree, and
 // each line of the report is the answer of its own call on the map that the one before left. Rests on
 // `tree`.
+#![tactic(auto)]
+
 mod fields;
 mod lines;
 

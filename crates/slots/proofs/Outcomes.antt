@@ -19,11 +19,11 @@ use Rattle.slots.specs.View.{View, answered, changed, accepted_sound, found_unso
 
 module _ {K : Kind} (L : View K) {X A : Type 0} (m : L.Map) (call : Call X A) where
   module _ (flag : Bool) (told : flag ≡ L.is_sound m) where
-    pub shown_unsound : not flag ≡ true → answered L m call ≡ refused 1
-    shown_unsound e = found_unsound L m call (sym told ∙ not-true flag e)
+    pub shown_unsound : flag ≡ false → answered L m call ≡ refused 1
+    shown_unsound e = found_unsound L m call (sym told ∙ e)
 
-    pub shown_sound : not flag ≡ false → answered L m call ≡ says call
-    shown_sound e = found_sound L m call (sym told ∙ not-false flag e)
+    pub shown_sound : flag ≡ true → answered L m call ≡ says call
+    shown_sound e = found_sound L m call (sym told ∙ e)
 
 -- ---- a judged call, carried out, is as its contract has it
 

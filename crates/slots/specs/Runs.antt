@@ -2,7 +2,7 @@
 -- both such runs, by the value that is looked for. Rests on `Sets`.
 use Rattle.std.specs.Prelude.{◌≡◌, ◌↔◌, ◌⊎◌, Bool, ltb, eqb, length, get_or}
 use Rattle.std.proofs.Math.Path.{refl, ap}
-use Rattle.std.proofs.Common.{sym, ap₂, ◌∙◌, ⊎_elim, true≢false, le_refl, le_trans, le_antisymm, lt_of_not-le, zero-add, add-zero, add-suc, suc-add}
+use Rattle.std.proofs.Common.{sym, subst, ap₂, ◌∙◌, ⊎_elim, true≢false, le_refl, le_trans, le_antisymm, lt_of_not-le, zero-add, add-zero, add-suc, suc-add}
 use Rattle.std.proofs.Math.Logic.{inl, inr}
 use Rattle.std.proofs.Math.Bool.{true, false, not}
 use mathlib.Core.List.{List, [], ◌∷◌}
@@ -527,8 +527,8 @@ module _ (beats : Run → Run → Bool) where
   best_listed best [] = inl refl
   best_listed best (r ∷ rs) =
       either (beats r best)
-      (λ e. rw (best_on best r rs e) (inr (best_listed r rs)))
-      (λ e. rw (best_stays best r rs e) (⊎_elim (λ is. inl is) (λ is. inr (inr is)) (best_listed best rs)))
+      (λ e. subst (λ q. Listed q (best ∷ r ∷ rs)) (sym (best_on best r rs e)) (inr (best_listed r rs)))
+      (λ e. subst (λ q. Listed q (best ∷ r ∷ rs)) (sym (best_stays best r rs e)) (⊎_elim (λ is. inl is) (λ is. inr (inr is)) (best_listed best rs)))
 
   module _ (order : Order beats) where
     -- none beats it

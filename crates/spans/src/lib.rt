@@ -1,4 +1,6 @@
 // Closed intervals of numbers, and clearing a part of a buffer. Rests on `answers`.
+#![tactic(auto)]
+
 ghost use Rattle.std.specs.Prelude.{◌≡◌, length, replicate};
 ghost use Rattle.spans.specs.Overlap.{OverlapSays};
 ghost use Rattle.spans.specs.Clearing.{ClearSays};

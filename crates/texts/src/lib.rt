@@ -1,5 +1,7 @@
 // Texts that are put into a lent buffer one after the other: words, and numbers in plain decimal. No
 // function refuses: a text that has no room is not put, and the offset stays.
+#![tactic(auto)]
+
 ghost use Rattle.texts.specs.Texts.{PutSays, PutNumberSays};
 
 // Puts the words into the buffer from offset `at` on, and answers the offset after them. Where there is
@@ -14,7 +16,7 @@ pub fn put(buffer: &mut [u8], at: usize, words: &[u8]) -> usize
         return at;
     }
     let end = at + words.len();
-    bytes::copy(words, &mut buffer[at..end]);
+    buffer[at..end].copy_from_slice(words);
     end
 }
 

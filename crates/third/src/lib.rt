@@ -5,6 +5,7 @@
 // free, set, next_free, get, empty and used refuse any other with 1, before all else. Capacity, and what
 // makes a map or reads its fields, answer for every map. A run may cross from tree to tree. Rests on
 // `judges`, `rows` and `tree`.
+#![tactic(auto)]
 
 ghost use Rattle.third.specs.Says.{NewEmptySays, NewFullSays, HoldingSays, WithSummariesSays, WithFullsSays, WithCountsSays, WordsSays, SummariesSays, FullsSays, CountsSays, SummarySays, TakeSays, ClaimSays, FreeSays, SetSays, NextFreeSays, GetSays, EmptySays, UsedSays, CapacitySays};
 ghost use Rattle.third.specs.Inner.{SoundSays, RangeJudged, ChangeJudged, TakeJudged, TotalSays, painted_third};
@@ -25,7 +26,7 @@ use tree::Stored;
 
 // Slot s is bit s % 64 of word s / 64; 1 means used. Tree i is the words from 16 * i on, with summary i,
 // mark of full words i and count i.
-#[derive(Drop)]
+#[derive(Clone, Copy)]
 pub struct Third {
     words: [u64; 256],
     summaries: [u16; 16],

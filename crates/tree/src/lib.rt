@@ -5,6 +5,7 @@
 // claim, free, set, next_free, get, empty and used refuse any other with 1, before all else. Capacity,
 // and what makes a tree or reads its words and its fields, answer for every tree. Rests on `judges` and
 // `rows`.
+#![tactic(auto)]
 
 ghost use Rattle.tree.specs.Says.{NewEmptySays, NewFullSays, HoldingSays, WithSummarySays, WithFullSays, WithCountSays, WordsSays, SummarySays, FullSays, CountSays, TakeSays, ClaimSays, FreeSays, SetSays, NextFreeSays, GetSays, EmptySays, UsedSays, CapacitySays, StoredOfSays, SoundSays};
 ghost use Rattle.answers.specs.Answers.{left_by};
@@ -19,7 +20,7 @@ use rows::{FULL, SHIFTS, TABLE, USED};
 
 // What is stored beside the words of a tree: bit i of the summary is 1 exactly if word i is not 0, bit i
 // of the mark of full words exactly if word i is all ones; and the count of used slots.
-#[derive(Drop)]
+#[derive(Clone, Copy)]
 pub struct Stored {
     pub summary: u16,
     pub full: u16,
@@ -27,7 +28,7 @@ pub struct Stored {
 }
 
 // Slot s is bit s % 64 of word s / 64; 1 means used.
-#[derive(Drop)]
+#[derive(Clone, Copy)]
 pub struct Tree {
     words: [u64; 16],
     summary: u16,

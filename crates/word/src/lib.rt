@@ -1,5 +1,7 @@
 // The word map: 64 slots in one word. Every word map is sound. A call takes the map by value and
 // hands it back with its answer; a refused call hands back the very map. Rests on `judges` and `rows`.
+#![tactic(auto)]
+
 ghost use Rattle.word.specs.Says.{NewEmptySays, NewFullSays, HoldingSays, BitsSays, TakeSays, ClaimSays, FreeSays, SetSays, NextFreeSays, GetSays, EmptySays, UsedSays, CapacitySays};
 ghost use Rattle.word.specs.Inner.{carried_out};
 ghost use Rattle.std.specs.Prelude.{◌≡◌};
@@ -9,7 +11,7 @@ use judges::Size;
 use rows::{SHIFTS, TABLE};
 
 // Slot i is bit i; 1 means used.
-#[derive(Drop)]
+#[derive(Clone, Copy)]
 pub struct Word {
     bits: u64,
 }

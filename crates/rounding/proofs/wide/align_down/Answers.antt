@@ -1,0 +1,15 @@
+-- `rounding::wide::align_down` meets its contract: each way out is the law of `Masks` at 64 bits. Assumes nothing.
+use borrow.Author.Rules.{rules}
+use Rattle.rounding.specs.Multiples.{aligned_down}
+use Rattle.rounding.proofs.Masks.{refused_alignment, align_pos, rounded_down}
+use Rattle.rounding.proofs.wide.align_down.Goals as goal
+
+pub returns-then-not-is_power : goal.returns-then-not-is_power
+unfolding aligned_down
+returns-then-not-is_power c = refused_alignment 64 _ c.ranges.align.fits _ c.is_power.ensures _ _ c.if-not-is_power.true
+
+pub overflow_sub-result : goal.overflow_sub-result
+overflow_sub-result c = align_pos 64 _ c.ranges.align.fits _ c.is_power.ensures c.if-not-is_power.false
+
+pub returns : goal.returns
+returns c = rounded_down 64 _ c.ranges.align.fits _ c.is_power.ensures c.if-not-is_power.false _ c.ranges.value.fits

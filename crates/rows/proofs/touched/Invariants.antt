@@ -1,0 +1,17 @@
+-- `rows::touched` meets its contract: before each word, the bits of the reached words before it are up to date. Assumes nothing.
+use mathlib.Core.Path.{◌≡◌, sym, ap, ◌∙◌}
+use Prim.Native.Nat.{ℕ, ◌*◌, ◌-◌, ◌/◌, ◌^◌, ◌≤◌, ◌<◌}
+use native.Mathlib.Omega.{arith}
+use borrow.Author.Rules.{rules}
+use Rattle.views.specs.Painting.{end_in}
+use Rattle.rows.specs.Rows.{mark_test, with_bit}
+use Rattle.views.specs.Marks.{passes_at, part_words, touched_marks}
+use Rattle.rows.proofs.Reasons.{before_end, part_there, part_most, touched_first, touch_none, touch_on, touch_all}
+use Rattle.rows.proofs.touched.Given as goal
+
+abbrev pub invariant-loop-i : goal.invariant-loop-i
+invariant-loop-i l =
+    (l.start / 64 ≤ l.i) × (l.i * 64 < 2 ^ 64) × (l.updated ≡ touched_first (mark_test l.full) l.part l.marks l.start (end_in (part_words l.part * 64) l.start l.n) l.i)
+
+abbrev pub decreases-loop-i : goal.decreases-loop-i
+decreases-loop-i l = l.end - l.i * 64
