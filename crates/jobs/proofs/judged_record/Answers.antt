@@ -21,7 +21,7 @@ returns-then-not-all_used c =
     let judging = kept in
     let asked = judging.args in
     sym (record_by asked.tree asked.reaped.now asked.start asked.n judging.judged_range-judged.result judging.judged_range-judged.ensures kept.in_default.not-Refused
-    ∙ judged_found 14 _ ok (ap not (sym tested.all_used.ensures) ∙ c.if-not-all_used.true))
+    ∙ judged_found 14 _ ok (ap not (sym tested.all_used.ensures ∙ c.if-not-all_used.true)))
 
 pub returns : goal.returns
 returns c =
@@ -30,4 +30,4 @@ returns c =
     let judging = kept in
     let asked = judging.args in
     sym (record_by asked.tree asked.reaped.now asked.start asked.n judging.judged_range-judged.result judging.judged_range-judged.ensures kept.in_default.not-Refused
-    ∙ judged_passed 14 _ ok (ap not (sym tested.all_used.ensures) ∙ c.if-not-all_used.false))
+    ∙ judged_passed 14 _ ok (ap not (sym tested.all_used.ensures ∙ c.if-not-all_used.false)))

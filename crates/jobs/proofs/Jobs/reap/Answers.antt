@@ -8,10 +8,9 @@ use Rattle.jobs.proofs.Jobs.reap.Goals as goal
 
 pub returns-in-Refused : goal.returns-in-Refused
 returns-in-Refused c =
-    let told = c.enum_told-1.given in
     let judging = c in
     let j = judging.args.self in
-    handed_back j.tree j.reaped judging.judged_reap-judged.result told.0.0 _ told.1 judging.judged_reap-judged.ensures
+    handed_back j.tree j.reaped judging.judged_reap-judged.result c.in-Refused.field-0 _ c.in-Refused.is judging.judged_reap-judged.ensures
 
 pub returns : goal.returns
 returns c =
@@ -23,5 +22,5 @@ returns c =
     let j = asked.self in
     let said = not_refused judging.judged_reap-judged.result kept.in_default.not-Refused in
     let held = are_jobs j entry.well_formed.0 in
-    (λ i. (said.1 i, jobs_of j.tree-1 (painting.paint.ensures i)))
-    ∙ reaps j.tree-1 j.reaped-1 held.is_map held.are_reaped asked.start asked.n said.0 (sym judging.judged_reap-judged.ensures ∙ said.1)
+    (λ i. (said.1 i, jobs_of j.tree (painting.paint.ensures i)))
+    ∙ reaps j.tree j.reaped held.is_map held.are_reaped asked.start asked.n said.0 (sym judging.judged_reap-judged.ensures ∙ said.1)

@@ -9,10 +9,9 @@ use Rattle.jobs.proofs.Jobs.record.Goals as goal
 
 pub returns-in-Refused : goal.returns-in-Refused
 returns-in-Refused c =
-    let told = c.enum_told-1.given in
     let judging = c in
     let j = judging.args.self in
-    handed_back j.tree j.reaped judging.judged_record-judged.result told.0.0 _ told.1 judging.judged_record-judged.ensures
+    handed_back j.tree j.reaped judging.judged_record-judged.result c.in-Refused.field-0 _ c.in-Refused.is judging.judged_record-judged.ensures
 
 pub returns : goal.returns
 returns c =
@@ -27,5 +26,5 @@ returns c =
     let held = are_jobs j entry.well_formed.0 in
     let freed = freeing.free-freed.result in
     (λ i. (said.1 i, jobs_of freed.map (painting.paint.ensures i)))
-    ∙ records j.tree-1 j.reaped-1 held.is_map held.are_reaped asked.start asked.n said.0 (sym judging.judged_record-judged.ensures ∙ said.1)
+    ∙ records j.tree j.reaped held.is_map held.are_reaped asked.start asked.n said.0 (sym judging.judged_record-judged.ensures ∙ said.1)
     (answer_says freed.answer) freed.map freeing.free-freed.ensures

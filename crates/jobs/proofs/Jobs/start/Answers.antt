@@ -16,7 +16,7 @@ returns-then-not-reaped_used c =
     let asked = tested.args in
     let j = asked.self in
     let call = start_call 10 (marks_of j) asked.n asked.a in
-    sym (says_refused jobs_view j call 1 (sym (asked_amiss j.tree-1 j.reaped-1 _ tested.reaped_used.ensures call c.if-not-reaped_used.true)))
+    sym (says_refused jobs_view j call 1 (sym (asked_amiss j.tree j.reaped _ tested.reaped_used.ensures call c.if-not-reaped_used.true)))
 
 pub returns : goal.returns
 returns c =
@@ -27,6 +27,6 @@ returns c =
     let asked = entry.args in
     let j = asked.self in
     let taken = taking.take-taken.result in
-    ap (λ (said : Said Reply). (said, jobs_of taken.map j.reaped-1)) c.as_job_answer.ensures
-    ∙ started j.tree-1 j.reaped-1 (are_jobs j entry.well_formed.0).are_reaped asked.n asked.a (shown_kept j.tree-1 j.reaped-1 _ tested.reaped_used.ensures first.if-not-reaped_used.false)
+    ap (λ (said : Said Reply). (said, jobs_of taken.map j.reaped)) c.as_job_answer.ensures
+    ∙ started j.tree j.reaped (are_jobs j entry.well_formed.0).are_reaped asked.n asked.a (shown_kept j.tree j.reaped _ tested.reaped_used.ensures first.if-not-reaped_used.false)
     (answer_says taken.answer) taken.map taking.take-taken.ensures

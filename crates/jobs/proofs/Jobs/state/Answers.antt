@@ -15,7 +15,7 @@ returns-then-not-reaped_used c =
     let tested = c in
     let asked = tested.args in
     let j = asked.self in
-    asked_amiss j.tree-1 j.reaped _ tested.reaped_used.ensures (state_call 10 (marks_of j) asked.slot) c.if-not-reaped_used.true
+    asked_amiss j.tree j.reaped _ tested.reaped_used.ensures (state_call 10 (marks_of j) asked.slot) c.if-not-reaped_used.true
 
 pub returns-in-Refused : goal.returns-in-Refused
 unfolding on_value
@@ -26,7 +26,7 @@ returns-in-Refused c =
     let tested = first in
     let asked = tested.args in
     let j = asked.self in
-    sym (state_told j.tree-1 j.reaped (shown_kept j.tree-1 j.reaped _ tested.reaped_used.ensures first.if-not-reaped_used.false) asked.slot
+    sym (state_told j.tree j.reaped (shown_kept j.tree j.reaped _ tested.reaped_used.ensures first.if-not-reaped_used.false) asked.slot
     ∙ ap (on_value (λ (used : Bool). state_by used (slot_in j.reaped asked.slot))) (sym telling.get-told.ensures ∙ ap truth_says known.in-Refused.is))
 
 pub returns-in-Is : goal.returns-in-Is
@@ -40,6 +40,6 @@ returns-in-Is c =
     let asked = tested.args in
     let j = asked.self in
     c.state_by.ensures
-    ∙ sym (state_told j.tree-1 j.reaped (shown_kept j.tree-1 j.reaped _ tested.reaped_used.ensures first.if-not-reaped_used.false) asked.slot
+    ∙ sym (state_told j.tree j.reaped (shown_kept j.tree j.reaped _ tested.reaped_used.ensures first.if-not-reaped_used.false) asked.slot
     ∙ ap (on_value (λ (used : Bool). state_by used (slot_in j.reaped asked.slot))) (sym telling.get-told.ensures ∙ ap truth_says known.in-Is.is)
     ∙ ap (λ (is : Bool). value (state_by known.in-Is.used is)) (sym reading.get.ensures))
