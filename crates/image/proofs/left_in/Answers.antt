@@ -18,14 +18,14 @@ pub returns-in-Refused : goal.returns-in-Refused
 returns-in-Refused c =
     let known = c in
     let asked = known.args in
-    (λ i. ((to_z-of_z w32 _ (record { sfits = c.negated.type-inv }) ∙ c.negated.ensures) i, asked.image.now))
+    (λ i. ((to_z-of_z w32 _ (record { sfits = c.negated.type_inv }) ∙ c.negated.ensures) i, asked.image.now))
     ∙ sym (ap told (left_refused asked.image.now asked.changed _ known.in-Refused.is))
 
 pub returns-in-At : goal.returns-in-At
 returns-in-At c =
     let known = c in
     let asked = known.args in
-    (λ i. (to_z_pos w32 _ (cast-result c).sfits i, c.put.ensures i))
+    (λ i. (to_z_pos w32 _ (overflow_cast-result c).sfits i, c.put.ensures i))
     ∙ sym (ap told (left_at asked.image.now asked.changed _ known.in-At.is))
 
 pub returns-in-Done : goal.returns-in-Done

@@ -9,10 +9,10 @@ use borrow.Author.Rules.{rules}
 use Rattle.image.proofs.negated.Goals as goal
 
 pub overflow_sub-result : goal.overflow_sub-result
-overflow_sub-result c = negated_fits c.number.result c.number.type-inv
+overflow_sub-result c = negated_fits c.number.result c.number.type_inv
 
 pub returns : goal.returns
 returns c =
-    to_z-of_z w32 _ (sub-result c)
-    ∙ negated_is c.number.result c.number.type-inv
+    to_z-of_z w32 _ (overflow_sub-result c)
+    ∙ negated_is c.number.result c.number.type_inv
     ∙ ap (λ (k : ℕ). neg_ℤ (pos k)) c.number.ensures

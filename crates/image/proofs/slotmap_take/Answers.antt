@@ -41,5 +41,5 @@ returns c =
     let passed = held in
     let tested = passed in
     let asked = tested.args in
-    (λ i. (to_z-of_z w32 left.left_in.result (record { sfits = left.left_in.type-inv }) i, left.left_in.new.0))
+    (λ i. (to_z-of_z w32 left.left_in.result (record { sfits = left.left_in.type_inv }) i, left.left_in.new.image))
     ∙ told_change asked.image.now _ tested.is_image.ensures passed.if-not-is_image.false (λ (t : Tree). take_call 10 (slot_of t) asked.n asked.a) _ held.held.ensures _ taken.take-taken.ensures _ _ left.left_in.ensures

@@ -29,7 +29,7 @@ returns-in-Is c =
     let passed = held in
     let tested = passed in
     let bytes = tested.args.image.now in
-    (λ i. (to_z_pos w32 _ (cast-result c).sfits i, bytes))
+    (λ i. (to_z_pos w32 _ (overflow_cast-result c).sfits i, bytes))
     ∙ told_count bytes _ tested.is_image.ensures passed.if-not-is_image.false _ held.held.ensures _ counted.used-counted.ensures _ c.in-Is.is
 
 pub returns-in-Refused : goal.returns-in-Refused
@@ -40,5 +40,5 @@ returns-in-Refused c =
     let passed = held in
     let tested = passed in
     let bytes = tested.args.image.now in
-    (λ i. ((to_z-of_z w32 _ (record { sfits = c.negated.type-inv }) ∙ c.negated.ensures) i, bytes))
+    (λ i. ((to_z-of_z w32 _ (record { sfits = c.negated.type_inv }) ∙ c.negated.ensures) i, bytes))
     ∙ told_count bytes _ tested.is_image.ensures passed.if-not-is_image.false _ held.held.ensures _ counted.used-counted.ensures _ known.in-Refused.is

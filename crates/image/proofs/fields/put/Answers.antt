@@ -9,6 +9,9 @@ use Rattle.image.proofs.Turns.{put_in_turn}
 use borrow.Author.Rules.{rules}
 use Rattle.image.proofs.fields.put.Goals as goal
 
+pub slice_bounds-put_words-end : goal.slice_bounds-put_words-end
+slice_bounds-put_words-end c = search rules
+
 pub returns : goal.returns
 returns c =
     let last = c in
@@ -20,8 +23,8 @@ returns c =
     let words = told in
     let start = words in
     let asked = start.args in
-    put_in_turn asked.image.now asked.map start.requires (ap length (sym words.words-words.ensures) ∙ sym (slice-aggregate-put-words lent))
+    put_in_turn asked.image.now asked.map start.requires (search rules)
     _ _ _ _ first.put_header.ensures
-    (second.put_words.ensures ∙ ap (λ (held : List ℕ). put_at first.put_header.new.0 3 (bytes_of 8 held)) words.words-words.ensures)
+    (second.put_words.ensures ∙ ap (λ (held : List ℕ). put_at first.put_header.new.image 3 (bytes_of 8 held)) words.words-words.ensures)
     third.put_header-2.ensures
-    (last.put_two.ensures ∙ ap (λ (n : ℕ). put_at third.put_header-2.new.0 134 (to_bytes 2 n)) told.summary-summary.ensures)
+    (last.put_two.ensures ∙ ap (λ (n : ℕ). put_at third.put_header-2.new.image 134 (to_bytes 2 n)) told.summary-summary.ensures)

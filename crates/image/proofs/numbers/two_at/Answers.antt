@@ -9,4 +9,4 @@ pub returns : goal.returns
 returns c =
     let asked = c.args in
     let inside = c.requires in
-    rw (c.wide-2.ensures.0, c.wide.ensures.0) (sym (number_two asked.bytes.now asked.at (omega (arith, inside))))
+    rw (c.wide-2.ensures.value, c.wide.ensures.value) (sym (number_two asked.bytes.now asked.at (omega (arith, inside))))
