@@ -6,6 +6,7 @@ ghost use Rattle.std.specs.Prelude.{◌≤◌, length};
 
 use crate::{edges, names, show, trees};
 use answers::{LongestRun, Number};
+use std::io;
 use tree::Tree;
 
 const AS_IT_WAS: u16 = 65535;
@@ -99,108 +100,110 @@ fn unchanged(list: &[u16], start: usize) -> u64 {
 
 // ---- parts of a line
 
-fn asked(used: bool, size: usize) {
+fn asked(rt: &impl Print, used: bool, size: usize) -> io::Result<()> {
     if used {
-        show::text(b": used runs, lent ");
+        show::text(rt, b": used runs, lent ")?;
     } else {
-        show::text(b": free runs, lent ");
+        show::text(rt, b": free runs, lent ")?;
     }
-    show::number(size as u64);
-    show::text(b" numbers");
+    show::number(rt, size as u64)?;
+    show::text(rt, b" numbers")
 }
 
 // The run at number i. Where it is left out, dots stand for it and for those left out beside it. Answers whether it is.
-fn run(list: &[u16], i: usize, end: usize, dots: bool) -> bool
+fn run(rt: &impl Print, list: &[u16], i: usize, end: usize, dots: bool) -> io::Result<bool>
     requires { i ≤ 1024 }
 {
     if left_out(list, i, end) {
         if !dots {
-            show::text(b" ..");
+            show::text(rt, b" ..")?;
         }
-        return true;
+        return Ok(true);
     }
-    show::asked(b" ", at(list, i) as u64, b"+", at(list, i + 1) as u64);
-    false
+    show::asked(rt, b" ", at(list, i) as u64, b"+", at(list, i + 1) as u64)?;
+    Ok(false)
 }
 
 // Each run of a list of `end` numbers.
-fn each(list: &[u16], end: usize)
+fn each(rt: &impl Print, list: &[u16], end: usize) -> io::Result<()>
     requires { end ≤ 1024 }
 {
     let mut i = 0;
     let mut dots = false;
     while i < end {
-        dots = run(list, i, end, dots);
+        dots = run(rt, list, i, end, dots)?;
         i += 2;
     }
+    Ok(())
 }
 
 // How many runs there are, and the list; none is said as such. Answers how many numbers it has.
-fn listed(runs: u64, list: &[u16]) -> usize {
+fn listed(rt: &impl Print, runs: u64, list: &[u16]) -> io::Result<usize> {
     let end = numbers(runs);
-    show::text(b": ");
-    show::number(runs);
-    show::text(b", list");
+    show::text(rt, b": ")?;
+    show::number(rt, runs)?;
+    show::text(rt, b", list")?;
     if end == 0 {
-        show::text(b" none");
+        show::text(rt, b" none")?;
     }
-    each(list, end);
-    end
+    each(rt, list, end)?;
+    Ok(end)
 }
 
-fn answer(said: Number, list: &[u16]) -> usize {
+fn answer(rt: &impl Print, said: Number, list: &[u16]) -> io::Result<usize> {
     match said {
-        Number::Is(runs) => listed(runs, list),
+        Number::Is(runs) => listed(rt, runs, list),
         Number::Refused(why) => {
-            show::refused(why.number());
-            0
+            show::refused(rt, why.number())?;
+            Ok(0)
         }
     }
 }
 
 // ---- lines
 
-fn runs(name: u8, map: Tree, used: bool, size: usize)
+fn runs(rt: &impl Print, name: u8, map: Tree, used: bool, size: usize) -> io::Result<()>
     requires { size ≤ 1026 }
 {
     let mut list = [AS_IT_WAS; 1026];
     let said = runs_lent(map, used, &mut list, size);
-    names::put(name);
-    asked(used, size);
-    let end = answer(said, &list);
+    names::put(rt, name)?;
+    asked(rt, used, size)?;
+    let end = answer(rt, said, &list)?;
     show::asked(
+        rt,
         b", then ",
         at(&list, end) as u64,
         b", unchanged ",
         unchanged(&list, end),
-    );
-    show::text(b"\n");
+    )?;
+    show::text(rt, b"\n")
 }
 
-fn both(name: u8, map: Tree, size: usize)
+fn both(rt: &impl Print, name: u8, map: Tree, size: usize) -> io::Result<()>
     requires { size ≤ 1026 }
 {
-    runs(name, map, false, size);
-    runs(name, map, true, size);
+    runs(rt, name, map, false, size)?;
+    runs(rt, name, map, true, size)
 }
 
-fn longest(name: u8, map: Tree) {
-    names::put(name);
-    show::text(b": longest free run");
+fn longest(rt: &impl Print, name: u8, map: Tree) -> io::Result<()> {
+    names::put(rt, name)?;
+    show::text(rt, b": longest free run")?;
     let said = gaps::longest_free(map);
     match said {
         LongestRun::Is(run) => {
-            show::asked(b": ", run.start as u64, b"+", run.length as u64);
-            show::text(b"\n");
+            show::asked(rt, b": ", run.start as u64, b"+", run.length as u64)?;
+            show::text(rt, b"\n")
         }
-        LongestRun::Refused(why) => show::refusal(why),
+        LongestRun::Refused(why) => show::refusal(rt, why),
     }
 }
 
 // Both lists, and the longest free run.
-fn each_call(name: u8, map: Tree) {
-    both(name, map, 1024);
-    longest(name, map);
+fn each_call(rt: &impl Print, name: u8, map: Tree) -> io::Result<()> {
+    both(rt, name, map, 1024)?;
+    longest(rt, name, map)
 }
 
 // ---- what is asked
@@ -219,71 +222,86 @@ fn without(map: Tree, start: usize, n: usize) -> Tree {
 }
 
 // No slot, all slots, every other slot; and the first or the last slot alone, used or free.
-pub fn of_maps() {
+pub fn of_maps(rt: &impl Print) -> io::Result<()> {
     let full = Tree::new_full();
-    each_call(names::EMPTY_TREE, Tree::new_empty());
-    each_call(names::FULL_TREE, full);
-    each_call(names::TREE_WITH_EVEN_SLOTS, even_slots());
-    each_call(names::TREE_WITH_ODD_SLOTS, odd_slots());
-    each_call(names::TREE_WITH_SLOT_0, edges::tree_with(0, 1));
-    each_call(names::TREE_WITH_SLOT_1023, edges::tree_with(1023, 1));
-    each_call(names::TREE_WITHOUT_SLOT_0, without(full, 0, 1));
-    each_call(names::TREE_WITH_SLOTS_0_TO_1022, without(full, 1023, 1));
+    each_call(rt, names::EMPTY_TREE, Tree::new_empty())?;
+    each_call(rt, names::FULL_TREE, full)?;
+    each_call(rt, names::TREE_WITH_EVEN_SLOTS, even_slots())?;
+    each_call(rt, names::TREE_WITH_ODD_SLOTS, odd_slots())?;
+    each_call(rt, names::TREE_WITH_SLOT_0, edges::tree_with(0, 1))?;
+    each_call(rt, names::TREE_WITH_SLOT_1023, edges::tree_with(1023, 1))?;
+    each_call(rt, names::TREE_WITHOUT_SLOT_0, without(full, 0, 1))?;
+    each_call(rt, names::TREE_WITH_SLOTS_0_TO_1022, without(full, 1023, 1))
 }
 
 // Runs across the edge of two words, and runs that end at one.
-pub fn at_words() {
+pub fn at_words(rt: &impl Print) -> io::Result<()> {
     let full = Tree::new_full();
-    each_call(names::TREE_WITH_SLOTS_60_TO_67, edges::tree_with(60, 8));
-    each_call(names::TREE_WITHOUT_SLOTS_60_TO_67, without(full, 60, 8));
-    each_call(names::TREE_WITH_SLOTS_64_TO_127, edges::tree_with(64, 64));
-    each_call(names::TREE_WITH_SLOTS_0_TO_959, edges::tree_with(0, 960));
+    each_call(rt, names::TREE_WITH_SLOTS_60_TO_67, edges::tree_with(60, 8))?;
+    each_call(rt, names::TREE_WITHOUT_SLOTS_60_TO_67, without(full, 60, 8))?;
+    each_call(
+        rt,
+        names::TREE_WITH_SLOTS_64_TO_127,
+        edges::tree_with(64, 64),
+    )?;
+    each_call(
+        rt,
+        names::TREE_WITH_SLOTS_0_TO_959,
+        edges::tree_with(0, 960),
+    )
 }
 
 // Two gaps that are equally long, and two of which the later is longer by a slot.
-pub fn two_gaps() {
+pub fn two_gaps(rt: &impl Print) -> io::Result<()> {
     let gap = without(Tree::new_full(), 100, 100);
     each_call(
+        rt,
         names::TREE_WITHOUT_SLOTS_100_TO_199_400_TO_499,
         without(gap, 400, 100),
-    );
+    )?;
     each_call(
+        rt,
         names::TREE_WITHOUT_SLOTS_100_TO_199_400_TO_500,
         without(gap, 400, 101),
-    );
+    )
 }
 
 // Buffers that are too short, also where a list would have no runs, and one that is longer than it has to be.
-pub fn buffers() {
-    both(names::EMPTY_TREE, Tree::new_empty(), 0);
-    both(names::FULL_TREE, Tree::new_full(), 1023);
-    both(names::TREE_WITH_EVEN_SLOTS, even_slots(), 1023);
-    both(names::TREE_WITH_EVEN_SLOTS, even_slots(), 1026);
+pub fn buffers(rt: &impl Print) -> io::Result<()> {
+    both(rt, names::EMPTY_TREE, Tree::new_empty(), 0)?;
+    both(rt, names::FULL_TREE, Tree::new_full(), 1023)?;
+    both(rt, names::TREE_WITH_EVEN_SLOTS, even_slots(), 1023)?;
+    both(rt, names::TREE_WITH_EVEN_SLOTS, even_slots(), 1026)
 }
 
 // A tree that is not sound, also where the buffer is too short and where all slots are used: 1 comes before 11 and before 7.
-fn unsound_tree(name: u8, bad: Tree) {
-    each_call(name, bad);
-    both(name, bad, 1023);
+fn unsound_tree(rt: &impl Print, name: u8, bad: Tree) -> io::Result<()> {
+    each_call(rt, name, bad)?;
+    both(rt, name, bad, 1023)
 }
 
-pub fn unsound_trees() {
+pub fn unsound_trees(rt: &impl Print) -> io::Result<()> {
     let empty = Tree::new_empty();
     let full = Tree::new_full();
-    unsound_tree(names::NO_SLOT_UNDER_SUMMARY_1, empty.with_summary(1));
+    unsound_tree(rt, names::NO_SLOT_UNDER_SUMMARY_1, empty.with_summary(1))?;
     unsound_tree(
+        rt,
         names::ALL_SLOTS_UNDER_SUMMARY_32767,
         full.with_summary(32767),
-    );
-    unsound_tree(names::FULL_TREE_WITH_FULL_MARK_32767, full.with_full(32767));
-    unsound_tree(names::EMPTY_TREE_WITH_FULL_MARK_1, empty.with_full(1));
-    unsound_tree(names::EMPTY_TREE_WITH_COUNT_1, empty.with_count(1));
-    unsound_tree(names::FULL_TREE_WITH_COUNT_1023, full.with_count(1023));
+    )?;
+    unsound_tree(
+        rt,
+        names::FULL_TREE_WITH_FULL_MARK_32767,
+        full.with_full(32767),
+    )?;
+    unsound_tree(rt, names::EMPTY_TREE_WITH_FULL_MARK_1, empty.with_full(1))?;
+    unsound_tree(rt, names::EMPTY_TREE_WITH_COUNT_1, empty.with_count(1))?;
+    unsound_tree(rt, names::FULL_TREE_WITH_COUNT_1023, full.with_count(1023))
 }
 
 // Groups that start and groups that don't: 346 slots are free, and the longest gap has 110. docs/pictures/gaps.svg is made of
 // these lines.
-pub fn seven_gaps() {
+pub fn seven_gaps(rt: &impl Print) -> io::Result<()> {
     let mut map = without(Tree::new_full(), 150, 26);
     map = without(map, 260, 60);
     map = without(map, 410, 110);
@@ -292,8 +310,8 @@ pub fn seven_gaps() {
     map = without(map, 922, 38);
     map = without(map, 1012, 12);
     let name = names::TREE_WITH_SEVEN_GAPS;
-    each_call(name, map);
-    trees::take(name, map, 346, 0);
-    trees::take(name, map, 111, 0);
-    trees::take(name, map, 110, 0);
+    each_call(rt, name, map)?;
+    trees::take(rt, name, map, 346, 0)?;
+    trees::take(rt, name, map, 111, 0)?;
+    trees::take(rt, name, map, 110, 0)
 }

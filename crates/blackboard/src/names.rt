@@ -2,6 +2,7 @@
 // has a number, and a call hands on the number: words that are lent to a call are slow to prove. So all of them are
 // lent at once, a line each.
 use crate::show;
+use std::io;
 
 pub const EMPTY_WORD: u8 = 0;
 
@@ -160,8 +161,9 @@ pub const TREE_WITHOUT_SLOTS_100_TO_199_400_TO_500: u8 = 76;
 pub const TREE_WITH_SEVEN_GAPS: u8 = 77;
 
 // Prints the words of a number, which are that line of these; one that has none prints nothing.
-pub fn put(k: u8) {
+pub fn put(rt: &impl Print, k: u8) -> io::Result<()> {
     show::line(
+        rt,
         b"empty word
 full word
 word with slot 0
@@ -242,5 +244,5 @@ tree without slots 100 to 199, 400 to 500
 tree with seven gaps
 ",
         k,
-    );
+    )
 }

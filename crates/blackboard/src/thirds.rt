@@ -4,6 +4,7 @@
 ghost use Rattle.std.specs.Prelude.{◌<◌};
 
 use crate::{asked, runs, show};
+use std::io;
 use third::{Changed, Third};
 use tree::Stored;
 
@@ -32,74 +33,81 @@ fn same(one: Stored, other: Stored) -> bool {
 }
 
 // The trees from `first` to `last`, which all store this. Where it is 0 throughout, it is not said.
-fn group(first: usize, last: usize, stored: Stored) {
+fn group(rt: &impl Print, first: usize, last: usize, stored: Stored) -> io::Result<()> {
     if stored.summary | stored.full | stored.count == 0 {
-        return;
+        return Ok(());
     }
-    show::asked(b", trees ", first as u64, b"..", last as u64);
-    runs::stored(stored);
+    show::asked(rt, b", trees ", first as u64, b"..", last as u64)?;
+    runs::stored(rt, stored)
 }
 
 // Those side by side that store the same, together.
-fn groups(map: Third) {
+fn groups(rt: &impl Print, map: Third) -> io::Result<()> {
     let mut first = 0;
     let mut last = 0;
     while last < 15 {
         let here = stored(map, last);
         if !same(here, stored(map, last + 1)) {
-            group(first, last, here);
+            group(rt, first, last, here)?;
             first = last + 1;
         }
         last += 1;
     }
-    group(first, last, stored(map, 15));
+    group(rt, first, last, stored(map, 15))
 }
 
-fn left(changed: Changed) {
+fn left(rt: &impl Print, changed: Changed) -> io::Result<()> {
     let answer = changed.answer;
     let map = changed.map;
     let words = map.words();
-    show::answer(answer);
-    runs::left(&words, 16384, map.summary());
-    groups(map);
-    show::text(b"\n");
+    show::answer(rt, answer)?;
+    runs::left(rt, &words, 16384, map.summary())?;
+    groups(rt, map)?;
+    show::text(rt, b"\n")
 }
 
-pub fn take(name: u8, map: Third, n: usize, a: usize) {
-    asked::take(name, n, a);
-    left(map.take(n, a));
+pub fn take(rt: &impl Print, name: u8, map: Third, n: usize, a: usize) -> io::Result<()> {
+    asked::take(rt, name, n, a)?;
+    left(rt, map.take(n, a))
 }
 
-pub fn claim(name: u8, map: Third, start: usize, n: usize) {
-    asked::claim(name, start, n);
-    left(map.claim(start, n));
+pub fn claim(rt: &impl Print, name: u8, map: Third, start: usize, n: usize) -> io::Result<()> {
+    asked::claim(rt, name, start, n)?;
+    left(rt, map.claim(start, n))
 }
 
-pub fn free(name: u8, map: Third, start: usize, n: usize) {
-    asked::free(name, start, n);
-    left(map.free(start, n));
+pub fn free(rt: &impl Print, name: u8, map: Third, start: usize, n: usize) -> io::Result<()> {
+    asked::free(rt, name, start, n)?;
+    left(rt, map.free(start, n))
 }
 
-pub fn set(name: u8, map: Third, start: usize, n: usize, used: bool) {
-    asked::set(name, start, n, used);
-    left(map.set(start, n, used));
+pub fn set(
+    rt: &impl Print,
+    name: u8,
+    map: Third,
+    start: usize,
+    n: usize,
+    used: bool,
+) -> io::Result<()> {
+    asked::set(rt, name, start, n, used)?;
+    left(rt, map.set(start, n, used))
 }
 
-pub fn next_free(name: u8, map: Third, start: usize) {
-    asked::next_free(name, start);
-    show::next_free_answer(map.next_free(start));
+pub fn next_free(rt: &impl Print, name: u8, map: Third, start: usize) -> io::Result<()> {
+    asked::next_free(rt, name, start)?;
+    show::next_free_answer(rt, map.next_free(start))
 }
 
-pub fn get(name: u8, map: Third, slot: usize) {
-    asked::get(name, slot);
-    show::truth_answer(map.get(slot));
+pub fn get(rt: &impl Print, name: u8, map: Third, slot: usize) -> io::Result<()> {
+    asked::get(rt, name, slot)?;
+    show::truth_answer(rt, map.get(slot))
 }
 
-pub fn counts(name: u8, map: Third) {
-    asked::empty(name);
-    show::truth_answer(map.empty());
-    asked::used(name);
-    show::number_answer(map.used());
-    asked::capacity(name);
-    show::value(map.capacity() as u64);
+pub fn counts(rt: &impl Print, name: u8, map: Third) -> io::Result<()> {
+    asked::empty(rt, name)?;
+    show::truth_answer(rt, map.empty())?;
+    asked::used(rt, name)?;
+    show::number_answer(rt, map.used())?;
+    asked::capacity(rt, name)?;
+    show::value(rt, map.capacity() as u64)
 }

@@ -1,79 +1,93 @@
 // The tree map: the map by its name, the call, its answer, and the runs of slots that are then used,
 // with all that is stored. A refused tree is shown too, since its words and its fields can always be read.
 use crate::{asked, names, runs, show};
+use std::io;
 use tree::{Changed, Tree};
 
 // The map that is left, to the end of the line.
-pub fn shown(map: Tree) {
+pub fn shown(rt: &impl Print, map: Tree) -> io::Result<()> {
     let words = map.words();
-    runs::left(&words, 1024, map.summary());
-    runs::beside(map.full(), map.count());
-    show::text(b"\n");
+    runs::left(rt, &words, 1024, map.summary())?;
+    runs::beside(rt, map.full(), map.count())?;
+    show::text(rt, b"\n")
 }
 
-fn left(changed: Changed) {
+fn left(rt: &impl Print, changed: Changed) -> io::Result<()> {
     let answer = changed.answer;
     let map = changed.map;
-    show::answer(answer);
-    shown(map);
+    show::answer(rt, answer)?;
+    shown(rt, map)
 }
 
 // The map that a story begins with.
-pub fn at_first(name: u8, map: Tree) {
-    names::put(name);
-    show::text(b": at first");
-    shown(map);
+pub fn at_first(rt: &impl Print, name: u8, map: Tree) -> io::Result<()> {
+    names::put(rt, name)?;
+    show::text(rt, b": at first")?;
+    shown(rt, map)
 }
 
-pub fn take(name: u8, map: Tree, n: usize, a: usize) {
-    asked::take(name, n, a);
-    left(map.take(n, a));
+pub fn take(rt: &impl Print, name: u8, map: Tree, n: usize, a: usize) -> io::Result<()> {
+    asked::take(rt, name, n, a)?;
+    left(rt, map.take(n, a))
 }
 
-pub fn take_in_place(name: u8, map: Tree, n: usize, a: usize) {
-    names::put(name);
-    show::text(b": take in place ");
-    asked::run(n, a);
-    left(in_place::take_in_copy(map, n, a));
+pub fn take_in_place(rt: &impl Print, name: u8, map: Tree, n: usize, a: usize) -> io::Result<()> {
+    names::put(rt, name)?;
+    show::text(rt, b": take in place ")?;
+    asked::run(rt, n, a)?;
+    left(rt, in_place::take_in_copy(map, n, a))
 }
 
-pub fn claim(name: u8, map: Tree, start: usize, n: usize) {
-    asked::claim(name, start, n);
-    left(map.claim(start, n));
+pub fn claim(rt: &impl Print, name: u8, map: Tree, start: usize, n: usize) -> io::Result<()> {
+    asked::claim(rt, name, start, n)?;
+    left(rt, map.claim(start, n))
 }
 
-pub fn free(name: u8, map: Tree, start: usize, n: usize) {
-    asked::free(name, start, n);
-    left(map.free(start, n));
+pub fn free(rt: &impl Print, name: u8, map: Tree, start: usize, n: usize) -> io::Result<()> {
+    asked::free(rt, name, start, n)?;
+    left(rt, map.free(start, n))
 }
 
-pub fn free_in_place(name: u8, map: Tree, start: usize, n: usize) {
-    names::put(name);
-    show::text(b": free in place from ");
-    asked::range(start, n);
-    left(in_place::free_in_copy(map, start, n));
+pub fn free_in_place(
+    rt: &impl Print,
+    name: u8,
+    map: Tree,
+    start: usize,
+    n: usize,
+) -> io::Result<()> {
+    names::put(rt, name)?;
+    show::text(rt, b": free in place from ")?;
+    asked::range(rt, start, n)?;
+    left(rt, in_place::free_in_copy(map, start, n))
 }
 
-pub fn set(name: u8, map: Tree, start: usize, n: usize, used: bool) {
-    asked::set(name, start, n, used);
-    left(map.set(start, n, used));
+pub fn set(
+    rt: &impl Print,
+    name: u8,
+    map: Tree,
+    start: usize,
+    n: usize,
+    used: bool,
+) -> io::Result<()> {
+    asked::set(rt, name, start, n, used)?;
+    left(rt, map.set(start, n, used))
 }
 
-pub fn next_free(name: u8, map: Tree, start: usize) {
-    asked::next_free(name, start);
-    show::next_free_answer(map.next_free(start));
+pub fn next_free(rt: &impl Print, name: u8, map: Tree, start: usize) -> io::Result<()> {
+    asked::next_free(rt, name, start)?;
+    show::next_free_answer(rt, map.next_free(start))
 }
 
-pub fn get(name: u8, map: Tree, slot: usize) {
-    asked::get(name, slot);
-    show::truth_answer(map.get(slot));
+pub fn get(rt: &impl Print, name: u8, map: Tree, slot: usize) -> io::Result<()> {
+    asked::get(rt, name, slot)?;
+    show::truth_answer(rt, map.get(slot))
 }
 
-pub fn counts(name: u8, map: Tree) {
-    asked::empty(name);
-    show::truth_answer(map.empty());
-    asked::used(name);
-    show::number_answer(map.used());
-    asked::capacity(name);
-    show::value(map.capacity() as u64);
+pub fn counts(rt: &impl Print, name: u8, map: Tree) -> io::Result<()> {
+    asked::empty(rt, name)?;
+    show::truth_answer(rt, map.empty())?;
+    asked::used(rt, name)?;
+    show::number_answer(rt, map.used())?;
+    asked::capacity(rt, name)?;
+    show::value(rt, map.capacity() as u64)
 }

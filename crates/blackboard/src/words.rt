@@ -1,84 +1,93 @@
 // The word map: the map by its name, the call, its answer, and the slots that are then used.
 use crate::{asked, names, show};
 use answers::Truth;
+use std::io;
 use word::{Changed, Word};
 
 // `#` for a used slot, a dot for a free one.
-fn slot_drawn(map: Word, slot: usize) {
+fn slot_drawn(rt: &impl Print, map: Word, slot: usize) -> io::Result<()> {
     let held = map.get(slot);
     match held {
         Truth::Is(used) => {
             if used {
-                show::text(b"#");
+                show::text(rt, b"#")
             } else {
-                show::text(b".");
+                show::text(rt, b".")
             }
         }
-        Truth::Refused(r) => show::refusal(r),
+        Truth::Refused(r) => show::refusal(rt, r),
     }
 }
 
 // The slots in a row, slot 0 first.
-fn drawn(map: Word) {
+fn drawn(rt: &impl Print, map: Word) -> io::Result<()> {
     let mut slot = 0;
     while slot < 64 {
-        slot_drawn(map, slot);
+        slot_drawn(rt, map, slot)?;
         slot += 1;
     }
+    Ok(())
 }
 
 // The answer, and the map that is left.
-fn left(changed: Changed) {
+fn left(rt: &impl Print, changed: Changed) -> io::Result<()> {
     let answer = changed.answer;
-    show::answer(answer);
-    show::text(b", leaves ");
-    drawn(changed.map);
-    show::text(b"\n");
+    show::answer(rt, answer)?;
+    show::text(rt, b", leaves ")?;
+    drawn(rt, changed.map)?;
+    show::text(rt, b"\n")
 }
 
 // The map that a story begins with.
-pub fn at_first(name: u8, map: Word) {
-    names::put(name);
-    show::text(b": at first, leaves ");
-    drawn(map);
-    show::text(b"\n");
+pub fn at_first(rt: &impl Print, name: u8, map: Word) -> io::Result<()> {
+    names::put(rt, name)?;
+    show::text(rt, b": at first, leaves ")?;
+    drawn(rt, map)?;
+    show::text(rt, b"\n")
 }
 
-pub fn take(name: u8, map: Word, n: usize, a: usize) {
-    asked::take(name, n, a);
-    left(map.take(n, a));
+pub fn take(rt: &impl Print, name: u8, map: Word, n: usize, a: usize) -> io::Result<()> {
+    asked::take(rt, name, n, a)?;
+    left(rt, map.take(n, a))
 }
 
-pub fn claim(name: u8, map: Word, start: usize, n: usize) {
-    asked::claim(name, start, n);
-    left(map.claim(start, n));
+pub fn claim(rt: &impl Print, name: u8, map: Word, start: usize, n: usize) -> io::Result<()> {
+    asked::claim(rt, name, start, n)?;
+    left(rt, map.claim(start, n))
 }
 
-pub fn free(name: u8, map: Word, start: usize, n: usize) {
-    asked::free(name, start, n);
-    left(map.free(start, n));
+pub fn free(rt: &impl Print, name: u8, map: Word, start: usize, n: usize) -> io::Result<()> {
+    asked::free(rt, name, start, n)?;
+    left(rt, map.free(start, n))
 }
 
-pub fn set(name: u8, map: Word, start: usize, n: usize, used: bool) {
-    asked::set(name, start, n, used);
-    left(map.set(start, n, used));
+pub fn set(
+    rt: &impl Print,
+    name: u8,
+    map: Word,
+    start: usize,
+    n: usize,
+    used: bool,
+) -> io::Result<()> {
+    asked::set(rt, name, start, n, used)?;
+    left(rt, map.set(start, n, used))
 }
 
-pub fn next_free(name: u8, map: Word, start: usize) {
-    asked::next_free(name, start);
-    show::next_free_answer(map.next_free(start));
+pub fn next_free(rt: &impl Print, name: u8, map: Word, start: usize) -> io::Result<()> {
+    asked::next_free(rt, name, start)?;
+    show::next_free_answer(rt, map.next_free(start))
 }
 
-pub fn get(name: u8, map: Word, slot: usize) {
-    asked::get(name, slot);
-    show::truth_answer(map.get(slot));
+pub fn get(rt: &impl Print, name: u8, map: Word, slot: usize) -> io::Result<()> {
+    asked::get(rt, name, slot)?;
+    show::truth_answer(rt, map.get(slot))
 }
 
-pub fn counts(name: u8, map: Word) {
-    asked::empty(name);
-    show::truth_answer(Truth::Is(map.empty()));
-    asked::used(name);
-    show::value(map.used() as u64);
-    asked::capacity(name);
-    show::value(map.capacity() as u64);
+pub fn counts(rt: &impl Print, name: u8, map: Word) -> io::Result<()> {
+    asked::empty(rt, name)?;
+    show::truth_answer(rt, Truth::Is(map.empty()))?;
+    asked::used(rt, name)?;
+    show::value(rt, map.used() as u64)?;
+    asked::capacity(rt, name)?;
+    show::value(rt, map.capacity() as u64)
 }

@@ -1,19 +1,15 @@
 -- What a call on jobs has to show at each way out, from what the tree and the tests have said. Assumes nothing.
 use mathlib.Core.Path.{◌≡◌, refl, sym, ap, ◌∙◌}
-use mathlib.Core.Logic.{⊎_elim}
 use mathlib.Core.Bool.{Bool, true, false, not, ◌&&◌, false≢true}
 use mathlib.Core.List.{List, [], ◌∷◌}
 use Prim.Native.Nat.{ℕ}
 use native.Mathlib.Omega.{arith}
-use types.Run.{OneOf}
-use denote.Enum.Declared.{tag_of}
 use borrow.Author.Tests.{not-true, not-false}
 use Rattle.answers.specs.Faults.{finds_both}
 use Rattle.answers.specs.Said.{Said, value, refused, ◌when◌, judged, leaving, on_value, judged_on_value, value≢refused, refused_injective}
 use Rattle.answers.specs.Refusals.{number_of}
 use Rattle.answers.specs.Answers.{Reply, at, ok, truth_says, answer_says}
 use Rattle.answers.proofs.Judging.{refused_first, passed_on}
-use Rattle.answers.specs.contracts.Answer.{the_type as Answer·type}
 use Rattle.answers.specs.declared.Answer.{Answer}
 use Rattle.answers.specs.declared.Answer.TheVariants.{Refused as Answer-as-Refused}
 use Rattle.answers.specs.declared.Refusal.{Refusal}
@@ -39,19 +35,17 @@ use Rattle.jobs.specs.declared.Jobs.{Jobs}
 use Rattle.jobs.specs.JobAnswers.{job_number_of, job_answer_says}
 use Rattle.jobs.specs.Inner.{range_call}
 use Rattle.jobs.specs.Layout.{jobs_of, jobs_view, marks_of, of_marks}
-use Rattle.answers.specs.contracts.Truth.{the_type as Truth·type}
-use Rattle.jobs.specs.contracts.JobAnswer.{the_type}
 
 -- ---- an answer that is no refusal
 
-is_told : (told : Truth) → OneOf (0 ∷ []) (tag_of Truth·type told) → (b : Bool) × (truth_says told ≡ value b)
+is_told : (told : Truth) → ((why : Refusal) → told ≡ Truth-as-Refused why → ⊥) → (b : Bool) × (truth_says told ≡ value b)
 is_told (Is b) h = (b, refl)
-is_told (Truth-as-Refused why) h = absurd (omega (arith, h))
+is_told (Truth-as-Refused why) h = absurd (h why refl)
 
-pub not_refused : (answer : JobAnswer) → OneOf (0 ∷ 1 ∷ []) (tag_of the_type answer) → (x : Reply) × (job_answer_says answer ≡ value x)
+pub not_refused : (answer : JobAnswer) → ((why : JobRefusal) → answer ≡ Refused why → ⊥) → (x : Reply) × (job_answer_says answer ≡ value x)
 not_refused (At n) h = (at n, refl)
 not_refused Done h = (ok, refl)
-not_refused (Refused why) h = absurd (⊎_elim (λ e. omega (arith, e)) (λ e. omega (arith, e)) h)
+not_refused (Refused why) h = absurd (h why refl)
 
 module _ (tree : Tree) (reaped : List ℕ) where
   abbrev j : Jobs
@@ -122,7 +116,7 @@ module _ (tree : Tree) (reaped : List ℕ) where
           (λ unsound. ap refused (refused_injective (said ∙ found_unsound tree_view tree _ unsound)) ∙ sym (found_unsound jobs_view j call (right ∙ unsound)))
 
       -- and one that says it is
-      pub tree_passed : OneOf (0 ∷ []) (tag_of Truth·type told) → says call ≡ answered jobs_view j call
+      pub tree_passed : ((why : Refusal) → told ≡ Truth-as-Refused why → ⊥) → says call ≡ answered jobs_view j call
       tree_passed is =
           let said = is_told told is in
           sym (found_sound jobs_view j call (right ∙ accepted_sound tree_view tree (empty_call 10 (slot_of tree)) said.0 (sym says_so ∙ said.1)))
@@ -168,7 +162,7 @@ module _ (tree : Tree) (reaped : List ℕ) where
       unfolding answered record_call
       record_first why e = sym (refused_first _ range told _ ok why e)
 
-      module _ (passed : OneOf (0 ∷ 1 ∷ []) (tag_of Answer·type range)) where
+      module _ (passed : (why : Refusal) → range ≡ Answer-as-Refused why → ⊥) where
         pub reap_by : answered jobs_view j (reap_call 10 (marks_of j) s n) ≡ judged ((13 when idle) ∷ []) ok
         unfolding answered reap_call
         reap_by = passed_on _ range told passed _ ok

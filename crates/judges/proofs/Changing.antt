@@ -3,9 +3,6 @@ use mathlib.Core.Path.{◌≡◌, refl, sym, ap, ◌∙◌}
 use mathlib.Core.Bool.{Bool, true, false, not}
 use mathlib.Core.List.{[], ◌∷◌, ◌++◌}
 use Prim.Native.Nat.{ℕ}
-use types.Run.{OneOf}
-use denote.Enum.Declared.{tag_of}
-use Rattle.answers.specs.contracts.Answer.{the_type}
 use Rattle.answers.proofs.Judging.{refused_first, passed_on}
 use Rattle.answers.specs.Said.{value, refused, ◌when◌, judged, judged_found, judged_passed}
 use Rattle.answers.specs.Refusals.{number_of}
@@ -29,7 +26,7 @@ module _ (k : ℕ) (S : Slots) (s n : ℕ) (v : Bool) where
     range_refuses why e = says_both ∙ refused_first (range_checks k s n) range told _ ok why e
 
     -- where the range is not refused, the slots decide
-    module _ (kept : OneOf (0 ∷ 1 ∷ []) (tag_of the_type range)) (flag : Bool) (shown : flag ≡ ready_for v S s n) where
+    module _ (kept : (why : Refusal) → range ≡ Refused why → ⊥) (flag : Bool) (shown : flag ≡ ready_for v S s n) where
       decides : says (change_call v k S s n) ≡ judged ((unready_for v when not flag) ∷ []) ok
       decides = says_both ∙ passed_on (range_checks k s n) range told kept _ ok ∙ ap (λ (b : Bool). judged ((unready_for v when not b) ∷ []) ok) (sym shown)
 

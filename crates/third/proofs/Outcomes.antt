@@ -5,9 +5,8 @@ use mathlib.Core.List.{List, [], ◌∷◌}
 use Prim.Native.Nat.{ℕ, ◌+◌, ◌*◌, ◌<◌}
 use native.Mathlib.Omega.{arith}
 use lib.Dec.{eqb, eqb→eq, eqb_refl}
-use types.Run.{OneOf}
-use denote.Enum.Declared.{tag_of}
-use Rattle.answers.specs.contracts.Answer.{the_type}
+use Rattle.answers.specs.declared.Refusal.{Refusal}
+use Rattle.answers.specs.declared.Answer.TheVariants.{Refused}
 use Rattle.answers.proofs.Judging.{left_accepted}
 use Rattle.answers.specs.Answers.{Reply, answer_says, left_by}
 use Rattle.answers.specs.declared.Answer.{Answer}
@@ -110,7 +109,7 @@ module _ (t : Third) (held : IsThird t) where
 
 -- ---- the map that is left
 
-pub left_as_judged : (judge : Answer) → OneOf (0 ∷ 1 ∷ []) (tag_of the_type judge) → (t : Third) (s n : ℕ) (v : Bool) (left summaries fulls counts : List ℕ) (over : ℕ)
+pub left_as_judged : (judge : Answer) → ((why : Refusal) → judge ≡ Refused why → ⊥) → (t : Third) (s n : ℕ) (v : Bool) (left summaries fulls counts : List ℕ) (over : ℕ)
     → left ≡ painted_words t.words s n v
     → (summaries ≡ renewed summary_of left t.summaries s n) × (fulls ≡ renewed full_of left t.fulls s n) × (counts ≡ renewed count_of left t.counts s n)
     → over ≡ summary_of summaries → third_of left summaries fulls counts over ≡ left_by judge t (painted_third t s n v)

@@ -6,9 +6,8 @@ use Prim.Native.Nat.{ℕ, ◌+◌, ◌*◌, ◌^◌, ◌≤◌, ◌<◌}
 use native.Mathlib.Omega.{arith}
 use lib.Dec.{eqb, eqb→eq, eqb_refl}
 use lib.ListN.{length}
-use types.Run.{OneOf}
-use denote.Enum.Declared.{tag_of}
-use Rattle.answers.specs.contracts.Answer.{the_type}
+use Rattle.answers.specs.declared.Refusal.{Refusal}
+use Rattle.answers.specs.declared.Answer.TheVariants.{Refused}
 use Rattle.answers.proofs.Judging.{left_accepted}
 use Rattle.answers.specs.Said.{Said, value}
 use Rattle.answers.specs.Answers.{Reply, answer_says, left_by}
@@ -104,7 +103,7 @@ module _ (t : Tree) (held : IsTree t) (sound : tree_view.is_sound t ≡ true) wh
 -- ---- a judged call, carried out, is as its contract has it
 
 -- the words painted, and this stored
-pub left_as_judged : (judge : Answer) → OneOf (0 ∷ 1 ∷ []) (tag_of the_type judge) → (words : List ℕ) (stored : Stored) (s n : ℕ) (v : Bool) (counting : List ℕ → ℕ)
+pub left_as_judged : (judge : Answer) → ((why : Refusal) → judge ≡ Refused why → ⊥) → (words : List ℕ) (stored : Stored) (s n : ℕ) (v : Bool) (counting : List ℕ → ℕ)
     → (left : List ℕ) (counted : ℕ) (updated : Stored) → left ≡ painted_words words s n v → counted ≡ counting left → updated ≡ touched_stored left stored s n counted
     → tree_of left updated ≡ left_by judge (tree_of words stored) (tree_of (painted_words words s n v) (touched_stored (painted_words words s n v) stored s n (counting (painted_words words s n v))))
 left_as_judged judge kept words stored s n v counting left counted updated e f g =

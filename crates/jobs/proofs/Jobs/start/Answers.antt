@@ -1,0 +1,32 @@
+-- `jobs::Jobs::start` meets its contract: 1 where a reaped slot is not used, and else the tree's take. Assumes nothing.
+use mathlib.Core.Path.{sym, ap, ◌∙◌}
+use borrow.Author.Rules.{rules}
+use Rattle.answers.specs.Said.{Said}
+use Rattle.answers.specs.Answers.{Reply, answer_says}
+use Rattle.slots.specs.Jobs.{start_call}
+use Rattle.slots.specs.View.{says_refused}
+use Rattle.jobs.specs.Layout.{jobs_view, marks_of, jobs_of}
+use Rattle.jobs.proofs.Values.{are_jobs}
+use Rattle.jobs.proofs.Outcomes.{shown_kept, asked_amiss, started}
+use Rattle.jobs.proofs.Jobs.start.Goals as goal
+
+pub returns-then-not-reaped_used : goal.returns-then-not-reaped_used
+returns-then-not-reaped_used c =
+    let tested = c in
+    let asked = tested.args in
+    let j = asked.self in
+    let call = start_call 10 (marks_of j) asked.n asked.a in
+    sym (says_refused jobs_view j call 1 (sym (asked_amiss j.tree j.reaped _ tested.reaped_used.ensures call c.if-not-reaped_used.true)))
+
+pub returns : goal.returns
+returns c =
+    let taking = c in
+    let first = taking in
+    let tested = first in
+    let entry = tested in
+    let asked = entry.args in
+    let j = asked.self in
+    let taken = taking.take-taken.result in
+    ap (λ (said : Said Reply). (said, jobs_of taken.map j.reaped)) c.as_job_answer.ensures
+    ∙ started j.tree j.reaped (are_jobs j entry.well_formed.0).are_reaped asked.n asked.a (shown_kept j.tree j.reaped _ tested.reaped_used.ensures first.if-not-reaped_used.false)
+    (answer_says taken.answer) taken.map taking.take-taken.ensures

@@ -1,0 +1,27 @@
+-- `tree::carried_out` meets its contract: on a refusal the very words and fields, and else the painted ones. Assumes nothing.
+use mathlib.Core.Path.{sym, ap}
+use mathlib.Core.List.{List}
+use Prim.Native.Nat.{ℕ}
+use borrow.Author.Rules.{rules}
+use Rattle.answers.specs.Answers.{left_by}
+use Rattle.answers.specs.declared.Answer.{Answer}
+use Rattle.views.specs.Count.{moved_count}
+use Rattle.tree.specs.Layout.{tree_of}
+use Rattle.tree.specs.Inner.{painted_tree}
+use Rattle.tree.proofs.Outcomes.{left_as_judged}
+use Rattle.tree.proofs.carried_out.Goals as goal
+
+pub returns-in-Refused : goal.returns-in-Refused
+returns-in-Refused c =
+    let asked = c.args in
+    let t = tree_of asked.words.now asked.stored in
+    sym (ap (λ (judge : Answer). left_by judge t (painted_tree asked.words.now asked.stored asked.start asked.n asked.used)) c.in-Refused.is)
+
+pub returns : goal.returns
+returns c =
+    let moving = c in
+    let painting = moving in
+    let kept = painting in
+    let asked = kept.args in
+    left_as_judged asked.judged kept.in_default.not-Refused asked.words.now asked.stored asked.start asked.n asked.used (λ (_ : List ℕ). moved_count asked.stored.count asked.n asked.used)
+    _ _ _ painting.paint.ensures moving.moved-count.ensures c.touched.ensures

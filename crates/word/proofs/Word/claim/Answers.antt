@@ -1,0 +1,21 @@
+-- `word::Word::claim` meets its contract: what was judged of its one word, carried out. Assumes nothing.
+use mathlib.Core.Path.{◌∙◌}
+use mathlib.Core.Bool.{true}
+use borrow.Author.Rules.{rules}
+use Rattle.slots.specs.Sets.{Slots}
+use Rattle.slots.specs.Calls.{claim_call}
+use Rattle.slots.specs.Promises.{claim_after}
+use Rattle.word.specs.Layout.{slot_of}
+use Rattle.word.proofs.Values.{is_word}
+use Rattle.word.proofs.Outcomes.{answers, carries}
+use Rattle.word.proofs.Word.claim.Goals as goal
+
+pub returns : goal.returns
+returns c =
+    let judging = c in
+    let entry = judging in
+    let asked = entry.args in
+    let w = asked.self in
+    let held = is_word w entry.well_formed.0 in
+    carries w held _ asked.start asked.n true (claim_after 6 (slot_of w) asked.start asked.n) judging.change-judged.result
+    (judging.change-judged.ensures ∙ answers w held (λ (S : Slots). claim_call 6 S asked.start asked.n)) _ c.carried_out.ensures
