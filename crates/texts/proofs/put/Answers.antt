@@ -13,19 +13,10 @@ use Rattle.texts.proofs.put.Goals as goal
 
 -- the words in the place of a part that is as long
 put_words : (buffer words part : List ℕ) (s : ℕ) → s + length words ≤ length buffer
-    → part ≡ take (length words) words ++ drop (length words) (mid_of s (s + length words - s) buffer)
+    → part ≡ words
     → put_mid s (s + length words - s) buffer part ≡ put_at buffer s words
 unfolding put_at
-put_words buffer words part s fits copied = (λ i. take s buffer ++ (is_words i ++ Post-is s (s + length words) buffer (omega arith) i))
-  where
-    long : length (mid_of s (s + length words - s) buffer) ≡ length words
-    long = let part-long = mid_len s (s + length words) buffer fits in omega (arith, part-long)
-
-    is_words : part ≡ words
-    is_words =
-        copied
-        ∙ ap₂ (λ (front rest : List ℕ). front ++ rest) (take-length words) (drop_of_length-le (mid_of s (s + length words - s) buffer) {i = length words} (omega (arith, long)))
-        ∙ append-nil words
+put_words buffer words part s fits copied = (λ i. take s buffer ++ (copied i ++ Post-is s (s + length words) buffer (omega arith) i))
 
 -- the offset lies past the buffer
 pub returns-then-buffer-at : goal.returns-then-buffer-at
@@ -44,5 +35,5 @@ returns c =
     let room = c in
     let asked = room.args in
     let fits : asked.at + length asked.words.now ≤ length asked.buffer.now = omega arith in
-    (λ i. (asked.at + length asked.words.now, put_words asked.buffer.now asked.words.now _ asked.at fits c.copy.ensures.1 i))
+    (λ i. (asked.at + length asked.words.now, put_words asked.buffer.now asked.words.now _ asked.at fits c.copy_from_slice.ensures.after i))
     ∙ sym (put_fits asked.at asked.buffer.now asked.words.now fits)

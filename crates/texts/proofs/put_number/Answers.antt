@@ -10,4 +10,4 @@ returns c =
     let put = c in
     let made = put in
     let asked = made.args in
-    put.put.ensures ∙ ap (put_in (asked.at, asked.buffer.now)) (made.decimal-count.ensures.1.1 ∙ sym (decimal_digits asked.n made.decimal-count.result made.decimal-count.ensures.1.0))
+    put.put.ensures ∙ ap (put_in (asked.at, asked.buffer.now)) (made.decimal-count.ensures.digits ∙ sym (decimal_digits asked.n made.decimal-count.result made.decimal-count.ensures.len))
