@@ -17,16 +17,6 @@ use Rattle.texts.specs.Texts.{end}
 use Rattle.report.specs.Report.{big_word, ran, ran_too_long, ran_accepted, RunSays, output_big, output_report, OutputSays}
 use Rattle.bits.specs.Buffers.{put_at}
 use Rattle.runner.proofs.output.Goals as goal
-use Rattle.runner.proofs.output.Lts as lts
-use Rattle.runner.proofs.output.Reads as reads
-use Rattle.runner.proofs.output.Tie as tie
-
-abbrev After-run-answer : Type 0
-After-run-answer = lts.After-run tie.the-claims reads.Pre reads.Post
-
--- the buffer's type says how long it is
-room : (c : After-run-answer) → 54624 ≤ length c.args.text.now
-room c = let sized : length c.args.text.now ≡ 54624 = search rules in omega (arith, sized)
 
 module _ (bytes before mid : List ℕ) (r : Number) (outcome : RunSays bytes before r mid) (room : 54624 ≤ length before) where
   said : (out : _) → ran bytes before ≡ out → number_says r ≡ out.0
@@ -56,13 +46,10 @@ module _ (bytes before mid : List ℕ) (r : Number) (outcome : RunSays bytes bef
 
 pub returns-in_default : goal.returns-in_default
 returns-in_default c =
-    let told = c in
-    let running = told.before.before.before.before.before.before in
-    let start = running in
-    said_big start.args.«record».now start.args.text.now _ running.run-answer.result running.run-answer.ensures (room running) _ told.in_default.is _ _ c.put.ensures.0 c.put.ensures.1
+    let sized : length c.args.text.now ≡ 54624 = search rules in
+    said_big c.args.«record».now c.args.text.now _ c.run-answer.result c.run-answer.ensures (omega (arith, sized)) _ c.in_default.is _ _ c.put.ensures.value c.put.ensures.report_after
 
 pub returns : goal.returns
 returns c =
-    let running = c.before.before in
-    let start = running in
-    reported start.args.«record».now start.args.text.now _ running.run-answer.result running.run-answer.ensures (room running) _ c.in-Is.is
+    let sized : length c.args.text.now ≡ 54624 = search rules in
+    reported c.args.«record».now c.args.text.now _ c.run-answer.result c.run-answer.ensures (omega (arith, sized)) _ c.in-Is.is

@@ -28,7 +28,7 @@ loop-next-preserved c =
     let moving = c in
     let reading = moving in
     turns reading.loop-next.invariant reading.loop-next-test.true reading.field_at-piece.ensures moving.carried_out-step.result moving.carried_out-step.ensures
-    put.result put.new.0 put.ensures.0 put.ensures.1
+    put.result put.new.report put.ensures.value put.ensures.report_after
 
 pub shape_of-report-in_default : goal.shape_of-report-in_default
 shape_of-report-in_default c =
@@ -50,11 +50,11 @@ shape_of-report c =
     let put = c.put_number-end in
     let counting = c in
     keeps_length counting.loop-next.invariant counting.loop-next-test.false counting.used-count.result counting.used-count.ensures _ c.in-Is.is
-    put.new.0 put.ensures.1
+    put.new.report put.ensures.report_after
 
 pub returns : goal.returns
 returns c =
     let put = c.put_number-end in
     let counting = c in
     finishes counting.loop-next.invariant counting.loop-next-test.false counting.used-count.result counting.used-count.ensures _ c.in-Is.is
-    put.result put.new.0 put.ensures.0 put.ensures.1
+    put.result put.new.report put.ensures.value put.ensures.report_after

@@ -7,7 +7,7 @@ use Rattle.runner.proofs.Running.{Running, starts, line_fits, turns, not_refused
 use Rattle.runner.proofs.reported.Given as goal
 
 abbrev pub invariant-loop-next : goal.invariant-loop-next
-invariant-loop-next l = Running l.«record» l.initial.report l.map l.next l.end l.report
+invariant-loop-next l = Running l.«record» l.initial.report l.map l.next l.length l.report
 
 abbrev pub decreases-loop-next : goal.decreases-loop-next
 decreases-loop-next l = length l.«record» - l.next

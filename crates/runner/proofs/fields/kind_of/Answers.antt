@@ -16,17 +16,13 @@ returns-in-3 c = sym (ap kind_of c.in-3.is)
 -- from 1 on, and none of 1 to 3
 pub returns-in-4-to-127 : goal.returns-in-4-to-127
 returns-in-4-to-127 c =
-    let others = c.in-4-to-127.in-4-to-127-own.rest in
-    let from = c.if-tag-lt1.false in
-    let to = c.if-tag-lt128.true in
-    sym (tags_skipped c.args.tag (omega (arith, from, others.0.0.1, others.0.1, others.1)) (omega (arith, to)))
+    sym (tags_skipped c.args.tag (omega arith) (omega arith))
 
 pub returns-in_default : goal.returns-in_default
 returns-in_default c =
     let tag = c.args.tag in
-    let below = c.if-tag-lt1.true in
-    let none : tag ≡ 0 = omega (arith, below) in
+    let none : tag ≡ 0 = omega arith in
     sym (ap kind_of none)
 
 pub returns-in_default-2 : goal.returns-in_default-2
-returns-in_default-2 c = let past = c.if-tag-lt128.false in sym (tags_stopping c.args.tag (omega (arith, past)))
+returns-in_default-2 c = sym (tags_stopping c.args.tag (omega arith))

@@ -14,10 +14,10 @@ returns-then-bytes-at-lt2 c =
     let asked = c.args in
     let here = c.if-bytes-at.false in
     let few = c.if-bytes-at-lt2.true in
-    rw c.wide-low.ensures.0 (sym (number_one asked.bytes.now asked.at (omega (arith, here, few))))
+    rw c.wide-low.ensures.value (sym (number_one asked.bytes.now asked.at (omega (arith, here, few))))
 
 pub returns : goal.returns
 returns c =
     let asked = c.args in
     let more = c.if-bytes-at-lt2.false in
-    rw (c.wide.ensures.0, c.wide-low.ensures.0) (sym (number_two asked.bytes.now asked.at (omega (arith, more))))
+    rw (c.wide.ensures.value, c.wide-low.ensures.value) (sym (number_two asked.bytes.now asked.at (omega (arith, more))))

@@ -10,4 +10,4 @@ returns c =
     let put = c in
     let asked = put.args in
     let out = put.put.ensures ∙ put_fits asked.at asked.report.now asked.words.now (omega arith) in
-    (ap (λ o. o.0) out, ap (λ o. o.1) out)
+    record { value = ap (λ o. o.0) out; report_after = ap (λ o. o.1) out }

@@ -27,14 +27,17 @@ put_number-requires-in-Refused c =
 pub returns-in-At : goal.returns-in-At
 returns-in-At c =
     let start = c in
-    put_as start.args.report.now start.args.at (written (answer_line start.args.answer)) _ (ap (λ (answer : Answer). written (answer_line answer)) c.in-At.is) _ _ c.put_number.ensures
+    let out = put_as start.args.report.now start.args.at (written (answer_line start.args.answer)) _ (ap (λ (answer : Answer). written (answer_line answer)) c.in-At.is) _ _ (c.put_number.ensures.value, c.put_number.ensures.report_after) in
+    record { value = out.0; report_after = out.1 }
 
 pub returns-in-Done : goal.returns-in-Done
 returns-in-Done c =
     let start = c in
-    put_as start.args.report.now start.args.at (written (answer_line start.args.answer)) _ (ap (λ (answer : Answer). written (answer_line answer)) c.in-Done.is) _ _ c.put.ensures
+    let out = put_as start.args.report.now start.args.at (written (answer_line start.args.answer)) _ (ap (λ (answer : Answer). written (answer_line answer)) c.in-Done.is) _ _ (c.put.ensures.value, c.put.ensures.report_after) in
+    record { value = out.0; report_after = out.1 }
 
 pub returns-in-Refused : goal.returns-in-Refused
 returns-in-Refused c =
     let start = c in
-    put_as start.args.report.now start.args.at (written (answer_line start.args.answer)) _ (ap (λ (answer : Answer). written (answer_line answer)) c.in-Refused.is ∙ ap (λ (k : ℕ). written (said (refused k))) (sym c.number.ensures)) _ _ c.put_number-in-Refused.ensures
+    let out = put_as start.args.report.now start.args.at (written (answer_line start.args.answer)) _ (ap (λ (answer : Answer). written (answer_line answer)) c.in-Refused.is ∙ ap (λ (k : ℕ). written (said (refused k))) (sym c.number.ensures)) _ _ (c.put_number-in-Refused.ensures.value, c.put_number-in-Refused.ensures.report_after) in
+    record { value = out.0; report_after = out.1 }

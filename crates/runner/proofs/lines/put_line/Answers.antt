@@ -30,19 +30,23 @@ put-requires-in-Short c =
 pub returns-in-Said : goal.returns-in-Said
 returns-in-Said c =
     let start = c in
-    put_as start.args.report.now start.args.at (written (line_says start.args.line)) _ (ap (λ (line : CodeLine). written (line_says line)) c.in-Said.is) _ _ c.put_answer.ensures
+    let out = put_as start.args.report.now start.args.at (written (line_says start.args.line)) _ (ap (λ (line : CodeLine). written (line_says line)) c.in-Said.is) _ _ (c.put_answer.ensures.value, c.put_answer.ensures.report_after) in
+    record { value = out.0; report_after = out.1 }
 
 pub returns-in-Skipped : goal.returns-in-Skipped
 returns-in-Skipped c =
     let start = c in
-    put_as start.args.report.now start.args.at (written (line_says start.args.line)) _ (ap (λ (line : CodeLine). written (line_says line)) c.in-Skipped.is) _ _ c.put.ensures
+    let out = put_as start.args.report.now start.args.at (written (line_says start.args.line)) _ (ap (λ (line : CodeLine). written (line_says line)) c.in-Skipped.is) _ _ (c.put.ensures.value, c.put.ensures.report_after) in
+    record { value = out.0; report_after = out.1 }
 
 pub returns-in-Stopped : goal.returns-in-Stopped
 returns-in-Stopped c =
     let start = c in
-    put_as start.args.report.now start.args.at (written (line_says start.args.line)) _ (ap (λ (line : CodeLine). written (line_says line)) c.in-Stopped.is) _ _ c.put-in-Stopped.ensures
+    let out = put_as start.args.report.now start.args.at (written (line_says start.args.line)) _ (ap (λ (line : CodeLine). written (line_says line)) c.in-Stopped.is) _ _ (c.put-in-Stopped.ensures.value, c.put-in-Stopped.ensures.report_after) in
+    record { value = out.0; report_after = out.1 }
 
 pub returns-in-Short : goal.returns-in-Short
 returns-in-Short c =
     let start = c in
-    put_as start.args.report.now start.args.at (written (line_says start.args.line)) _ (ap (λ (line : CodeLine). written (line_says line)) c.in-Short.is) _ _ c.put-in-Short.ensures
+    let out = put_as start.args.report.now start.args.at (written (line_says start.args.line)) _ (ap (λ (line : CodeLine). written (line_says line)) c.in-Short.is) _ _ (c.put-in-Short.ensures.value, c.put-in-Short.ensures.report_after) in
+    record { value = out.0; report_after = out.1 }

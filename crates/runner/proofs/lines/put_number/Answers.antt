@@ -17,7 +17,7 @@ put-requires c =
     let numeral = c in
     let worded = numeral in
     let asked = worded.args in
-    end_fits asked.report.now asked.word.now asked.at asked.n (omega arith) _ _ worded.put-after_word.ensures.0 worded.put-after_word.ensures.1 _ _ numeral.put_number-after_number.ensures
+    end_fits asked.report.now asked.word.now asked.at asked.n (omega arith) _ _ worded.put-after_word.ensures.value worded.put-after_word.ensures.report_after _ _ numeral.put_number-after_number.ensures
 
 pub returns : goal.returns
 returns c =
@@ -27,7 +27,7 @@ returns c =
     let asked = worded.args in
     let report = asked.report.now in
     let word = asked.word.now in
-    let fits : asked.at + length (numbered word asked.n) ≤ length report = omega arith in (
-      all_length report word asked.at asked.n fits _ _ worded.put-after_word.ensures.0 worded.put-after_word.ensures.1 _ _ numeral.put_number-after_number.ensures _ ended.put.ensures.0,
-      all_put report word asked.at asked.n fits _ _ worded.put-after_word.ensures.0 worded.put-after_word.ensures.1 _ _ numeral.put_number-after_number.ensures _ ended.put.ensures.1,
-    )
+    let fits : asked.at + length (numbered word asked.n) ≤ length report = omega arith in record {
+      value = all_length report word asked.at asked.n fits _ _ worded.put-after_word.ensures.value worded.put-after_word.ensures.report_after _ _ numeral.put_number-after_number.ensures _ ended.put.ensures.value;
+      report_after = all_put report word asked.at asked.n fits _ _ worded.put-after_word.ensures.value worded.put-after_word.ensures.report_after _ _ numeral.put_number-after_number.ensures _ ended.put.ensures.report_after;
+    }
