@@ -5,7 +5,8 @@ use Rattle.std.proofs.Common.{sym, ◌∙◌, arith}
 use Rattle.std.proofs.Math.Path.{ap}
 use Rattle.answers.specs.Said.{value, refused, leaving_says, leaving_refused, leaving_value}
 use Rattle.answers.specs.Faults.{◌if◌, FaultsDecide}
-use Rattle.answers.specs.Answers.{run, number_says, longest_run_says, number_says_injective, longest_run_says_injective}
+use Rattle.answers.specs.Answers.{run, number_says, longest_run_says}
+use Rattle.answers.proofs.Answers.{number_says_injective, longest_run_says_injective}
 use Rattle.answers.specs.declared.Number.{Number}
 use Rattle.answers.specs.declared.LongestRun.{LongestRun}
 use Rattle.answers.specs.declared.Run.{Run}

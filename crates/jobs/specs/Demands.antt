@@ -3,7 +3,8 @@
 use Rattle.std.specs.Prelude.{◌≡◌, List, [], ◌∷◌, ℕ, ◌<◌}
 use Rattle.std.proofs.Common.{sym, ap, ◌∙◌}
 use Rattle.answers.specs.Said.{Said}
-use Rattle.answers.specs.Answers.{Reply, truth_says, number_says, truth_says_injective, number_says_injective}
+use Rattle.answers.specs.Answers.{Reply, truth_says, number_says}
+use Rattle.answers.proofs.Answers.{truth_says_injective, number_says_injective}
 use Rattle.answers.specs.declared.Number.{Number}
 use Rattle.answers.specs.declared.Truth.{Truth}
 use Rattle.slots.specs.Sets.{none}

@@ -6,7 +6,8 @@ use Rattle.std.proofs.Math.Path.{sym, ap}
 use Rattle.std.proofs.Common.{subst, ◌∙◌, inl, arith, length-append, ltb-true, ltb-false}
 use Rattle.answers.specs.Said.{Said, value, refused, ◌when◌, leaving_says, leaving_refused, leaving_value}
 use Rattle.answers.specs.Faults.{Fault, ◌if◌, First, NoFault, Finds, judged_refuses, judged_accepts, finds_lt}
-use Rattle.answers.specs.Answers.{Reply, number_says, number_says_injective}
+use Rattle.answers.specs.Answers.{Reply, number_says}
+use Rattle.answers.proofs.Answers.{number_says_injective}
 use Rattle.answers.specs.declared.Number.{Number}
 use Rattle.bits.specs.Range.{either}
 use Rattle.slots.specs.Sets.{none}

@@ -7,7 +7,8 @@ use mathlib.Core.List.{List, [], ◌∷◌, Perm}
 use Rattle.answers.specs.Said.{Said, value, refused, judged, leaving}
 use Rattle.answers.specs.Answers.{Reply, at, ok}
 use Rattle.bits.specs.Range.{least, every, within}
-use Rattle.bits.specs.Digits.{digit, number, digit_number, number_lt, number_digit, past_digit}
+use Rattle.bits.specs.Digits.{digit, number, number_lt, number_digit}
+use Rattle.bits.proofs.Digits.{digit_number, past_digit}
 use Rattle.slots.specs.Sets.{all_free, all_used, painted, AllUsed}
 use Rattle.slots.specs.Lowest.{fits_at, lowest}
 use Rattle.slots.specs.Calls.{take_call, free_call}

@@ -5,7 +5,8 @@ use Rattle.std.proofs.Common.{sym, ◌∙◌, inl, inr, ⊎_elim, true≢false, 
 use Rattle.std.proofs.Math.Dec.{T, nleb→lt}
 use Rattle.std.proofs.lemmas.Bool.{not-true, not-false}
 use Rattle.answers.specs.Said.{Said, value, refused, judged, leaving_says, leaving_refused, leaving_value, value_injective}
-use Rattle.answers.specs.Faults.{Fault, ◌if◌, Rising, Finds, FaultsDecide, faults_decide, finds_lt, finds_le, finds_eq, finds_either}
+use Rattle.answers.specs.Faults.{Fault, ◌if◌, Rising, Finds, FaultsDecide, finds_lt, finds_le, finds_eq, finds_either}
+use Rattle.answers.proofs.Faults.{faults_decide}
 use Rattle.answers.specs.Answers.{Reply, at, ok}
 use Rattle.bits.specs.Range.{least, count, either, same_test, least_from, least_passes, least_first, le_of_not_lt}
 use Rattle.slots.specs.Sets.{Slots, all_free, finds_all_free, painted, AllFree, AllUsed, SomeUsed, SomeFree, finds_some_used, finds_some_free}

@@ -2,7 +2,7 @@
 -- map's own beside it; and that each contract leaves one outcome.
 use Rattle.std.specs.Prelude.{◌≡◌, Bool, List, ℕ}
 use Rattle.std.proofs.Common.{sym, ap, ◌∙◌}
-use Rattle.answers.specs.Answers.{answer_says_injective, next_free_says_injective, truth_says_injective, number_says_injective}
+use Rattle.answers.proofs.Answers.{answer_says_injective, next_free_says_injective, truth_says_injective, number_says_injective}
 use Rattle.answers.specs.declared.NextFree.{NextFree}
 use Rattle.answers.specs.declared.Number.{Number}
 use Rattle.answers.specs.declared.Truth.{Truth}

@@ -3,7 +3,8 @@
 use Rattle.std.specs.Prelude.{◌≡◌, Bool, [], ◌∷◌, ℕ}
 use Rattle.std.proofs.Common.{sym, ◌∙◌}
 use Rattle.answers.specs.Said.{Said, value, value_injective}
-use Rattle.answers.specs.Answers.{Reply, answer_says, next_free_says, truth_says, answer_says_injective, next_free_says_injective, truth_says_injective}
+use Rattle.answers.specs.Answers.{Reply, answer_says, next_free_says, truth_says}
+use Rattle.answers.proofs.Answers.{answer_says_injective, next_free_says_injective, truth_says_injective}
 use Rattle.answers.specs.declared.NextFree.{NextFree}
 use Rattle.answers.specs.declared.Truth.{Truth}
 use Rattle.slots.specs.Calls.{take_call, claim_call, free_call, set_call}
