@@ -14,7 +14,8 @@ use Rattle.slots.specs.Sets.{none}
 use Rattle.slots.specs.Calls.{used_call}
 use Rattle.slots.specs.Plain.{Asked, call_of}
 use Rattle.slots.specs.View.{changed_sound}
-use Rattle.slots.specs.Series.{made, answers_of, last_of, record_of, before_of, Back, walked_back}
+use Rattle.slots.specs.Series.{made, answers_of, last_of, record_of, before_of, Back}
+use Rattle.slots.proofs.Series.{walked_back}
 use Rattle.tree.specs.declared.Tree.{Tree}
 use Rattle.tree.specs.Layout.{tree_view, slot_of, tree_calls, Sound}
 use Rattle.report.specs.Fields.{Field, call, skip, bad, cut, fields}

@@ -9,7 +9,7 @@ use Rattle.answers.specs.declared.Truth.{Truth}
 use Rattle.slots.specs.Sets.{none, all}
 use Rattle.slots.specs.Calls.{take_call, claim_call, free_call, set_call}
 use Rattle.slots.specs.View.{same_state, places_decide}
-use Rattle.slots.specs.Demands.{Demands, demanded}
+use Rattle.slots.proofs.Demands.{Demands, demanded}
 use Rattle.views.specs.Painting.{slot_in}
 use Rattle.views.specs.Words.{AreWords}
 use Rattle.third.specs.declared.Third.{Third}

@@ -19,7 +19,7 @@ use Rattle.slots.specs.Promises.{used_promise}
 use Rattle.slots.specs.Plain.{Asked, call_of}
 use Rattle.slots.specs.View.{same_state, places_decide, found_sound, found_unsound}
 use Rattle.slots.specs.Demands as Slots
-use Rattle.slots.specs.Demands.{Demands, demanded, Ran}
+use Rattle.slots.proofs.Demands.{Demands, demanded, Ran}
 use Rattle.views.specs.Painting.{slot_in}
 use Rattle.views.specs.Words.{listed}
 use Rattle.views.specs.Marks.{marks_of, marks_right}

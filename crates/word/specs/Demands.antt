@@ -10,7 +10,7 @@ use Rattle.answers.specs.declared.Truth.{Truth}
 use Rattle.slots.specs.Calls.{take_call, claim_call, free_call, set_call}
 use Rattle.slots.specs.Plain.{Asked, call_of}
 use Rattle.slots.specs.Demands as Slots
-use Rattle.slots.specs.Demands.{Demands, demanded, Ran}
+use Rattle.slots.proofs.Demands.{Demands, demanded, Ran}
 use Rattle.word.specs.declared.Word.{Word}
 use Rattle.word.specs.declared.Changed.{Changed}
 use Rattle.word.specs.Layout.{slot_of, word_view}
