@@ -1,1 +1,4 @@
 pub mod Judging
+pub mod Answers
+pub mod Faults
+pub mod Refusals

@@ -1,9 +1,8 @@
 -- Each answer enum in document 01's terms: one definition that gives every case its value or its refusal's number. Two answers that say the
 -- same are the same.
-use Rattle.std.specs.Prelude.{◌≡◌, refl, Bool, ℕ}
-use Rattle.std.proofs.Common.{ap}
-use Rattle.answers.specs.Said.{Said, value, refused, on_value}
-use Rattle.answers.specs.Refusals.{number_of, named, named_number, undone_injective}
+use Rattle.std.specs.Prelude.{Bool, ℕ}
+use Rattle.answers.specs.Said.{Said, value, refused}
+use Rattle.answers.specs.Refusals.{number_of, named}
 use Rattle.answers.specs.declared.Refusal.{Refusal}
 use Rattle.answers.specs.declared.Number.{Number}
 use Rattle.answers.specs.declared.Number.TheVariants.{Is as Number-as-Is, Refused as Number-as-Refused}
@@ -65,65 +64,3 @@ left_by (Answer-as-Refused r) before after = before
 abbrev pub saying : {A E : Type 0} → (A → E) → (Refusal → E) → Said A → E
 saying is refuse (value a) = is a
 saying is refuse (refused k) = refuse (named k)
-
-number_back : (r : Number) → saying Number-as-Is Number-as-Refused (number_says r) ≡ r
-number_back (Number-as-Is n) = refl
-number_back (Number-as-Refused r) = ap Number-as-Refused (named_number r)
-
-narrow_number_back : (r : NarrowNumber) → saying NarrowNumber-as-Is NarrowNumber-as-Refused (narrow_number_says r) ≡ r
-narrow_number_back (NarrowNumber-as-Is n) = refl
-narrow_number_back (NarrowNumber-as-Refused r) = ap NarrowNumber-as-Refused (named_number r)
-
-truth_back : (r : Truth) → saying Truth-as-Is Truth-as-Refused (truth_says r) ≡ r
-truth_back (Truth-as-Is b) = refl
-truth_back (Truth-as-Refused r) = ap Truth-as-Refused (named_number r)
-
-replying : Reply → Answer
-replying (at n) = Answer-as-At n
-replying ok = Answer-as-Done
-
-answer_back : (r : Answer) → saying replying Answer-as-Refused (answer_says r) ≡ r
-unfolding replying
-answer_back (Answer-as-At n) = refl
-answer_back Answer-as-Done = refl
-answer_back (Answer-as-Refused r) = ap Answer-as-Refused (named_number r)
-
-next_free_back : (r : NextFree) → saying NextFree-as-At NextFree-as-Refused (next_free_says r) ≡ r
-next_free_back (NextFree-as-At n) = refl
-next_free_back (NextFree-as-Refused r) = ap NextFree-as-Refused (named_number r)
-
-longest_run_back : (r : LongestRun) → saying LongestRun-as-Is LongestRun-as-Refused (longest_run_says r) ≡ r
-longest_run_back (LongestRun-as-Is r) = refl
-longest_run_back (LongestRun-as-Refused r) = ap LongestRun-as-Refused (named_number r)
-
-pub number_says_injective : (r s : Number) → number_says r ≡ number_says s → r ≡ s
-number_says_injective = undone_injective number_says (saying Number-as-Is Number-as-Refused) number_back
-
-pub narrow_number_says_injective : (r s : NarrowNumber) → narrow_number_says r ≡ narrow_number_says s → r ≡ s
-narrow_number_says_injective = undone_injective narrow_number_says (saying NarrowNumber-as-Is NarrowNumber-as-Refused) narrow_number_back
-
-pub truth_says_injective : (r s : Truth) → truth_says r ≡ truth_says s → r ≡ s
-truth_says_injective = undone_injective truth_says (saying Truth-as-Is Truth-as-Refused) truth_back
-
-pub answer_says_injective : (r s : Answer) → answer_says r ≡ answer_says s → r ≡ s
-answer_says_injective = undone_injective answer_says (saying replying Answer-as-Refused) answer_back
-
-pub next_free_says_injective : (r s : NextFree) → next_free_says r ≡ next_free_says s → r ≡ s
-next_free_says_injective = undone_injective next_free_says (saying NextFree-as-At NextFree-as-Refused) next_free_back
-
-pub longest_run_says_injective : (r s : LongestRun) → longest_run_says r ≡ longest_run_says s → r ≡ s
-longest_run_says_injective = undone_injective longest_run_says (saying LongestRun-as-Is LongestRun-as-Refused) longest_run_back
-
--- and so are two that say where a take starts
-start_of : Reply → ℕ
-start_of (at n) = n
-start_of ok = 0
-
-granted_back : (r : NextFree) → saying (λ (x : Reply). NextFree-as-At (start_of x)) NextFree-as-Refused (on_value at (next_free_says r)) ≡ r
-unfolding start_of on_value
-granted_back (NextFree-as-At n) = refl
-granted_back (NextFree-as-Refused r) = ap NextFree-as-Refused (named_number r)
-
-pub granted_says_injective : (r s : NextFree) → on_value at (next_free_says r) ≡ on_value at (next_free_says s) → r ≡ s
-granted_says_injective =
-    undone_injective (λ (r : NextFree). on_value at (next_free_says r)) (saying (λ (x : Reply). NextFree-as-At (start_of x)) NextFree-as-Refused) granted_back

@@ -118,12 +118,3 @@ finds_not b found = (λ t p. T_not b t (found.1 p), λ none. not_T b (λ t. none
 pub record FaultsDecide {A : Type 0} (said : Said A) (a : A) (fs : List Fault) : Type 0 where
   pub refuses : (k : ℕ) → (said ≡ refused k) ↔ Least k fs
   pub accepts : (b : A) → (said ≡ value b) ↔ (NoFault fs × (a ≡ b))
-
-pub faults_decide : {A : Type 0} (cs : List Check) (fs : List Fault) (a : A) → Rising 0 fs → Finds cs fs → FaultsDecide (judged cs a) a fs
-faults_decide cs fs a r h = record {
-  refuses = λ k. (
-    λ e. (first_is_least k 0 fs r).0 ((judged_refuses cs fs a k h).0 e),
-    λ l. (judged_refuses cs fs a k h).1 ((first_is_least k 0 fs r).1 l),
-  );
-  accepts = λ b. judged_accepts cs fs a b h;
-}

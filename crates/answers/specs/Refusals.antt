@@ -62,10 +62,6 @@ number_other r k past = let most = number_most r in ne_eqb (number_of r) k (λ e
 pub undone_injective : {A B : Type 0} (f : A → B) (undo : B → A) → ((a : A) → undo (f a) ≡ a) → (a b : A) → f a ≡ f b → a ≡ b
 undone_injective f undo back a b e = sym (back a) ∙ ap undo e ∙ back b
 
--- no two refusals share a number
-pub number_injective : (r s : Refusal) → number_of r ≡ number_of s → r ≡ s
-number_injective = undone_injective number_of named named_number
-
 -- ---- the contract of `Refusal::number`
 
 abbrev pub NumberSays : Refusal → ℕ → Type 0

@@ -1,16 +1,16 @@
 -- The three questions of this crate in document 01's terms: the k lowest places, one place, and the places from one to another, each as a
 -- number of 64 bits. Then what each means, digit by digit, and that its contract leaves one answer. Rests on `Digits` and on `answers`.
-use Rattle.std.specs.Prelude.{◌≡◌, refl, ◌↔◌, Bool, ◌&&◌, [], ◌∷◌, ℕ, ◌-◌, ◌^◌, ◌≤◌, ◌<◌, min, T, leb, ltb}
-use Rattle.std.proofs.Common.{sym, ap, ◌∙◌, inl, arith, ltb-true, ltb-false}
+use Rattle.std.specs.Prelude.{◌≡◌, refl, ◌&&◌, [], ◌∷◌, ℕ, ◌-◌, ◌^◌, ◌≤◌, ◌<◌, min, leb, ltb}
+use Rattle.std.proofs.Common.{sym, ◌∙◌, arith}
 use Rattle.std.proofs.Math.Nat.{min-eq_left}
 use Rattle.std.specs.Int.Count.{ones, ones-ones}
-use Rattle.std.proofs.lemmas.Bool.{lt-leb}
 use Rattle.answers.specs.Said.{Said, value, ◌when◌, judged}
-use Rattle.answers.specs.Faults.{◌if◌, FaultsDecide, faults_decide, finds_lt, finds_le, finds_both}
-use Rattle.answers.specs.Answers.{number_says, number_says_injective}
+use Rattle.answers.specs.Faults.{◌if◌, FaultsDecide, finds_lt}
+use Rattle.answers.proofs.Faults.{faults_decide}
+use Rattle.answers.specs.Answers.{number_says}
+use Rattle.answers.proofs.Answers.{number_says_injective}
 use Rattle.answers.specs.declared.Number.{Number}
-use Rattle.bits.specs.Range.{and_false, either, le_of_not_lt}
-use Rattle.bits.specs.Digits.{digit, number, digit_number, number_lt, past_digit, low_mask_digit}
+use Rattle.bits.specs.Digits.{number}
 
 -- ---- what is answered
 
@@ -51,11 +51,6 @@ mask_one_answer start end r s p q = number_says_injective r s (p ∙ sym q)
 
 -- ---- what the answers mean
 
--- entry k has a 1 in each place below k and in no other: k ones
-pub low_mask_places : (k i : ℕ) → k ≤ 64 → digit (low_mask k) i ≡ ltb i k
-unfolding low_mask
-low_mask_places k i h = rw (min-eq_left h) (low_mask_digit k i)
-
 pub low_mask_ones : (k : ℕ) → k ≤ 64 → ones (low_mask k) ≡ k
 unfolding low_mask
 low_mask_ones k h = rw (min-eq_left h) (ones-ones k)
@@ -69,20 +64,6 @@ one_bit_faults x = faults_decide _ _ (2 ^ x) (omega arith) (refl, finds_lt 63 x,
 pub mask_faults : (s e : ℕ) → FaultsDecide (mask_between s e) (places s e) ((4 if (63 < e)) ∷ (10 if (e < s)) ∷ [])
 unfolding mask_between
 mask_faults s e = faults_decide _ _ (places s e) (omega arith) (refl, finds_lt 63 e, λ _. (refl, finds_lt e s, λ _. tt))
-
-places_digit : (s e i : ℕ) → e ≤ 63 → digit (places s e) i ≡ leb s i && leb i e
-unfolding places
-places_digit s e i h =
-    either (ltb i 64) (λ t. digit_number _ 64 i (ltb-true i 64 t))
-    (λ t. past_digit _ 64 i (number_lt _ 64) (ltb-false i 64 t)
-    ∙ sym (ap (λ (b : Bool). leb s i && b) (lt-leb i e (omega (arith, ltb-false i 64 t))) ∙ and_false (leb s i)))
-
--- it has ones exactly from bit s to bit e
-pub mask_places : (s e m i : ℕ) → mask_between s e ≡ value m → T (digit m i) ↔ ((s ≤ i) × (i ≤ e))
-mask_places s e m i said =
-    let accepted = ((mask_faults s e).accepts m).0 said in
-    let small : e ≤ 63 = le_of_not_lt (λ lt. accepted.0 4 (inl (refl, lt))) in
-    rw (← accepted.1, places_digit s e i small) (finds_both (leb s i) (leb i e) (finds_le s i) (finds_le i e))
 
 -- all ones from bit 0 to bit 63
 pub mask_all : mask_between 0 63 ≡ value (2 ^ 64 - 1)

@@ -7,7 +7,8 @@ use mathlib.Core.List.{List, [], ◌∷◌}
 use Rattle.std.proofs.Math.ListN.{length, length-append}
 use Rattle.answers.specs.Said.{value, refused, leaving_says, leaving_refused, leaving_value}
 use Rattle.answers.specs.Faults.{◌if◌, FaultsDecide}
-use Rattle.answers.specs.Answers.{number_says, number_says_injective}
+use Rattle.answers.specs.Answers.{number_says}
+use Rattle.answers.proofs.Answers.{number_says_injective}
 use Rattle.answers.specs.declared.Number.{Number}
 use Rattle.bits.specs.Buffers.{put_at}
 use Rattle.texts.specs.Texts.{joined}

@@ -9,7 +9,8 @@ use Rattle.texts.specs.Texts.{end, joined, joined_more}
 use Rattle.slots.specs.Sets.{Slots}
 use Rattle.slots.specs.Calls.{says}
 use Rattle.slots.specs.Runs.{end_of, Listed}
-use Rattle.slots.specs.Gaps.{runs_of, longest_call, longest_promise, listed_exactly}
+use Rattle.slots.specs.Gaps.{runs_of, longest_call, listed_exactly}
+use Rattle.slots.proofs.Gaps.{longest_promise}
 use Rattle.gaps.specs.Demands.{most_runs}
 use Rattle.gap_report.specs.Lines.{free_word, used_word, longest_word, run_line, run_lines, longest_line, slots_line, free_slots, lines_of}
 

@@ -12,7 +12,8 @@ use Rattle.bits.specs.Buffers.{put_at}
 use Rattle.slots.specs.Sets.{Slots}
 use Rattle.slots.specs.Calls.{says}
 use Rattle.slots.specs.View.{found_sound, found_unsound}
-use Rattle.slots.specs.Gaps.{runs_of, flat, list_call, longest_of, longest_call, longest_is, longest_promise, longest_full, some_longest}
+use Rattle.slots.specs.Gaps.{runs_of, flat, list_call, longest_of, longest_call, longest_full}
+use Rattle.slots.proofs.Gaps.{longest_is, longest_promise, some_longest}
 use Rattle.tree.specs.declared.Tree.{Tree}
 use Rattle.tree.specs.Layout.{slot_of, tree_view}
 use Rattle.gaps.specs.Says.{listed}

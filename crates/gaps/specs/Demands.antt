@@ -5,13 +5,15 @@ use Rattle.std.proofs.Common.{sym, ◌∙◌, arith}
 use Rattle.std.proofs.Math.Path.{ap}
 use Rattle.answers.specs.Said.{value, refused, leaving_says, leaving_refused, leaving_value}
 use Rattle.answers.specs.Faults.{◌if◌, FaultsDecide}
-use Rattle.answers.specs.Answers.{run, number_says, longest_run_says, number_says_injective, longest_run_says_injective}
+use Rattle.answers.specs.Answers.{run, number_says, longest_run_says}
+use Rattle.answers.proofs.Answers.{number_says_injective, longest_run_says_injective}
 use Rattle.answers.specs.declared.Number.{Number}
 use Rattle.answers.specs.declared.LongestRun.{LongestRun}
 use Rattle.answers.specs.declared.Run.{Run}
 use Rattle.slots.specs.Sets.{Slots}
 use Rattle.slots.specs.Runs.{end_of, listed_place}
-use Rattle.slots.specs.Gaps.{has_other, having_other, runs_of, list_call, list_faults, list_refused, run_at, list_at, list_keeps, longest_of, longest_call, longest_faults, longest_refused, Longest, Full, longest_promise, longest_full, WholeRun, listed_exactly, listed_rises, listed_few, none_listed, alternating, alternating_most}
+use Rattle.slots.specs.Gaps.{has_other, having_other, runs_of, list_call, list_faults, list_refused, run_at, list_at, list_keeps, longest_of, longest_call, longest_faults, longest_refused, Longest, Full, longest_full, WholeRun, listed_exactly, listed_few, alternating, alternating_most}
+use Rattle.slots.proofs.Gaps.{longest_promise, listed_rises, none_listed}
 use Rattle.slots.specs.View.{answered, answered_decided, sound_answers}
 use Rattle.tree.specs.declared.Tree.{Tree}
 use Rattle.tree.specs.Layout.{slot_of, tree_view, Sound}

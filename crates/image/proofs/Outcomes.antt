@@ -18,7 +18,8 @@ use Rattle.answers.specs.declared.Refusal.{Refusal}
 use Rattle.bits.specs.Range.{count, count_most}
 use Rattle.slots.specs.Sets.{Slots, none}
 use Rattle.slots.specs.Calls.{Call, take_call, free_call}
-use Rattle.slots.specs.Promises.{take_promise, free_faults, free_refused}
+use Rattle.slots.specs.Promises.{free_faults}
+use Rattle.slots.proofs.Promises.{take_promise, free_refused}
 use Rattle.slots.specs.View.{answered, answered_decided, changed_says, found_sound, accepted_sound}
 use Rattle.tree.specs.declared.Tree.{Tree}
 use Rattle.tree.specs.declared.Changed.{Changed}

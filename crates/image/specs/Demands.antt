@@ -13,7 +13,8 @@ use Rattle.answers.specs.declared.Number.{Number}
 use Rattle.bits.specs.Range.{same_test}
 use Rattle.slots.specs.Sets.{Slots, none}
 use Rattle.slots.specs.Calls.{Call, take_call, free_call, used_call}
-use Rattle.slots.specs.Promises.{take_faults, free_faults, take_refused, free_refused, used_refused}
+use Rattle.slots.specs.Promises.{take_faults, free_faults, used_refused}
+use Rattle.slots.proofs.Promises.{take_refused, free_refused}
 use Rattle.slots.specs.View.{answered, changed_refused, says_refused, says_accepted}
 use Rattle.tree.specs.declared.Tree.{Tree}
 use Rattle.tree.specs.declared.Changed.{Changed}

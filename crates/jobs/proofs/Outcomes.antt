@@ -19,9 +19,10 @@ use Rattle.bits.specs.Range.{and_true, and_false, either, same_test}
 use Rattle.slots.specs.Sets.{Named, all_free, all_used, painted, AllUsed, finds_all_free, finds_all_used}
 use Rattle.slots.specs.Kinds as Kinds
 use Rattle.slots.specs.Calls.{Call, says, take_call, free_call, get_call, empty_call}
-use Rattle.slots.specs.Promises.{free_promise}
+use Rattle.slots.proofs.Promises.{free_promise}
 use Rattle.slots.specs.View.{answered, changed, accepted_sound, found_unsound, found_sound, says_refused, says_accepted, sound_accepted}
-use Rattle.slots.specs.Jobs.{jobs, running_in, state_by, start_call, reap_call, record_call, state_call, record_passed, reaped_means}
+use Rattle.slots.specs.Jobs.{jobs, running_in, state_by, start_call, reap_call, record_call, state_call, reaped_means}
+use Rattle.slots.proofs.Jobs.{record_passed}
 use Rattle.slots.specs.JobView.{reaped_used}
 use Rattle.views.specs.Painting.{slot_in, painted_words}
 use Rattle.views.specs.Words.{AreWords, words_of, same_words, painted_words_lem}

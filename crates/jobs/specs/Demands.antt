@@ -3,7 +3,8 @@
 use Rattle.std.specs.Prelude.{◌≡◌, List, [], ◌∷◌, ℕ, ◌<◌}
 use Rattle.std.proofs.Common.{sym, ap, ◌∙◌}
 use Rattle.answers.specs.Said.{Said}
-use Rattle.answers.specs.Answers.{Reply, truth_says, number_says, truth_says_injective, number_says_injective}
+use Rattle.answers.specs.Answers.{Reply, truth_says, number_says}
+use Rattle.answers.proofs.Answers.{truth_says_injective, number_says_injective}
 use Rattle.answers.specs.declared.Number.{Number}
 use Rattle.answers.specs.declared.Truth.{Truth}
 use Rattle.slots.specs.Sets.{none}
@@ -11,11 +12,13 @@ use Rattle.slots.specs.Calls.{empty_call, used_call}
 use Rattle.slots.specs.View.{answered}
 use Rattle.slots.specs.Outcome as Outcome
 use Rattle.slots.specs.Plain as Plain
-use Rattle.slots.specs.Demands as Slots
+use Rattle.slots.proofs.Demands as Slots
 use Rattle.slots.specs.Jobs.{used_at, reaped_at, marks, free, state_in, free_means, start_call, reap_call, record_call, state_call}
 use Rattle.slots.specs.Turns.{Asked, call_of, Ran}
-use Rattle.slots.specs.JobDemands.{Demands, demanded}
-use Rattle.slots.specs.Below.{below, OfBelow, of_below}
+use Rattle.slots.specs.JobDemands.{Demands}
+use Rattle.slots.proofs.JobDemands.{demanded}
+use Rattle.slots.specs.Below.{below}
+use Rattle.slots.proofs.Below.{OfBelow, of_below}
 use Rattle.tree.specs.declared.Tree.{Tree}
 use Rattle.tree.specs.declared.Changed.{Changed as Tree-as-Changed}
 use Rattle.tree.specs.Layout.{tree_view}

@@ -3,7 +3,8 @@
 use Rattle.std.specs.Prelude.{◌≡◌, Bool, true, false, List, ℕ}
 use Rattle.std.proofs.Common.{sym, ◌∙◌}
 use Rattle.answers.specs.Said.{judged, on_value}
-use Rattle.answers.specs.Answers.{Reply, at, ok, answer_says, next_free_says, truth_says, answer_says_injective, truth_says_injective, next_free_says_injective, granted_says_injective}
+use Rattle.answers.specs.Answers.{Reply, at, ok, answer_says, next_free_says, truth_says}
+use Rattle.answers.proofs.Answers.{answer_says_injective, truth_says_injective, next_free_says_injective, granted_says_injective}
 use Rattle.answers.specs.declared.Answer.{Answer}
 use Rattle.answers.specs.declared.NextFree.{NextFree}
 use Rattle.answers.specs.declared.Truth.{Truth}

@@ -9,7 +9,8 @@ use lib.Seq.{drop-cons}
 use Rattle.bits.specs.Range.{count}
 use Rattle.views.specs.Painting.{slot_in}
 use Rattle.slots.specs.Kinds.{plain}
-use Rattle.slots.specs.Plain.{Asked, take, free, plain_calls}
+use Rattle.slots.specs.Plain.{Asked, take, free}
+use Rattle.slots.proofs.Plain.{plain_calls}
 use Rattle.slots.specs.Series.{made, last_of}
 use Rattle.slots.specs.View.{View}
 use Rattle.measured.specs.Series.{takes_of, frees_of, Left, After}

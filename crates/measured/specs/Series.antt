@@ -5,7 +5,8 @@ use Rattle.std.proofs.Common.{sym, ap, ◌∙◌}
 use Rattle.bits.specs.Range.{count}
 use Rattle.views.specs.Painting.{slot_in}
 use Rattle.slots.specs.Kinds.{plain}
-use Rattle.slots.specs.Plain.{Asked, take, free, plain_calls}
+use Rattle.slots.specs.Plain.{Asked, take, free}
+use Rattle.slots.proofs.Plain.{plain_calls}
 use Rattle.slots.specs.Series.{last_of}
 use Rattle.slots.specs.View.{View}
 use Rattle.tree.specs.declared.Tree.{Tree}

@@ -11,7 +11,8 @@ use lib.Count.{count_trailing_zeros}
 use lib.Pow.{pow_pos}
 use borrow.Author.Tests.{lt-ltb, leb-true, le-leb, not-true, ltb-true, ltb-false}
 use Rattle.bits.specs.Range.{and_true, and_false, within, least, least_from, least_to, least_passes, least_first, least_is, least_none, either, same_test, every, finds_every, within_other}
-use Rattle.bits.specs.Digits.{digit, number, number_is, equal_digits, zero_digit, and_digit, or_digit, complement_digit, down_digit, shifted_digit, low_mask_digit, run_digit, trailing_least}
+use Rattle.bits.specs.Digits.{digit, number, zero_digit, down_digit, trailing_least}
+use Rattle.bits.proofs.Digits.{number_is, equal_digits, and_digit, or_digit, complement_digit, shifted_digit, low_mask_digit, run_digit}
 use Rattle.places.specs.Places.{painted_place}
 
 -- ---- masks for a run

@@ -4,7 +4,8 @@ use Rattle.std.proofs.Common.{sym, ◌∙◌, arith}
 use Rattle.std.proofs.Math.Path.{ap}
 use Rattle.std.proofs.Math.Bool.{true, false, not}
 use Rattle.bits.specs.Range.{within, every, count, every_agree, every_within}
-use Rattle.bits.specs.Digits.{digit, number, digit_number, number_agree}
+use Rattle.bits.specs.Digits.{digit, number, number_agree}
+use Rattle.bits.proofs.Digits.{digit_number}
 use Rattle.slots.specs.Sets.{all_free, all_used, painted}
 use Rattle.slots.specs.Lowest.{free_from}
 

@@ -6,14 +6,16 @@ use Rattle.std.proofs.Math.Path.{sym, ap}
 use Rattle.std.proofs.Common.{subst, ◌∙◌, inl, arith, length-append, ltb-true, ltb-false}
 use Rattle.answers.specs.Said.{Said, value, refused, ◌when◌, leaving_says, leaving_refused, leaving_value}
 use Rattle.answers.specs.Faults.{Fault, ◌if◌, First, NoFault, Finds, judged_refuses, judged_accepts, finds_lt}
-use Rattle.answers.specs.Answers.{Reply, number_says, number_says_injective}
+use Rattle.answers.specs.Answers.{Reply, number_says}
+use Rattle.answers.proofs.Answers.{number_says_injective}
 use Rattle.answers.specs.declared.Number.{Number}
 use Rattle.bits.specs.Range.{either}
 use Rattle.slots.specs.Sets.{none}
 use Rattle.slots.specs.Calls.{used_call}
 use Rattle.slots.specs.Plain.{Asked, call_of}
 use Rattle.slots.specs.View.{changed_sound}
-use Rattle.slots.specs.Series.{made, answers_of, last_of, record_of, before_of, Back, walked_back}
+use Rattle.slots.specs.Series.{made, answers_of, last_of, record_of, before_of, Back}
+use Rattle.slots.proofs.Series.{walked_back}
 use Rattle.tree.specs.declared.Tree.{Tree}
 use Rattle.tree.specs.Layout.{tree_view, slot_of, tree_calls, Sound}
 use Rattle.report.specs.Fields.{Field, call, skip, bad, cut, fields}

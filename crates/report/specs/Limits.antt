@@ -9,7 +9,7 @@ use Rattle.bits.specs.Bytes.{from_bytes}
 use Rattle.bits.specs.Range.{either, count, count_most, count_agree}
 use Rattle.slots.specs.Sets.{none}
 use Rattle.slots.specs.Calls.{take_call, claim_call, free_call, used_call}
-use Rattle.slots.specs.Promises.{take_promise}
+use Rattle.slots.proofs.Promises.{take_promise}
 use Rattle.slots.specs.View.{answered, changed_says, found_sound, found_unsound, sound_answers}
 use Rattle.slots.specs.Plain.{Asked, take as askTake, claim as askClaim, free as askFree, call_of}
 use Rattle.slots.specs.Series.{made}

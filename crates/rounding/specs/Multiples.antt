@@ -1,12 +1,13 @@
 -- Rounding in document 01's terms, over the width w: what each call answers, and that the answers are the least multiple not below, the greatest
 -- not above, and divisibility. Rests on `Powers` and on `answers`.
 use Rattle.std.specs.Prelude.{◌≡◌, refl, ◌↔◌, ◌⊎◌, Bool, true, false, not, [], ◌∷◌, ℕ, ◌+◌, ◌-◌, ◌*◌, ◌/◌, ◌%◌, ◌^◌, ◌≤◌, ◌<◌, T, leb, eqb}
-use Rattle.std.proofs.Common.{inl, inr, ⊎_elim, le_trans, lt_of_not-le, not-le_of_lt, le_antisymm, le_of_suc-le-suc, mul-le-mul_right, le-div_iff_mul-le, div-lt_iff_lt-mul, arith, leb→le, le→leb, eqb→eq, T_not}
+use Rattle.std.proofs.Common.{inl, inr, ⊎_elim, le_antisymm, le_of_suc-le-suc, mul-le-mul_right, le-div_iff_mul-le, div-lt_iff_lt-mul, arith, eqb→eq, T_not}
 use Rattle.std.proofs.Math.Nat.{suc-mul, mul-mod_left, mod-lt, div-add-mod', div-mul-le_self}
 use Rattle.std.proofs.Math.Dec.{not_T}
-use Rattle.bits.specs.Range.{le_of_not_lt, same_test}
+use Rattle.bits.specs.Range.{same_test}
 use Rattle.answers.specs.Said.{Said, value, ◌when◌, judged}
-use Rattle.answers.specs.Faults.{◌if◌, FaultsDecide, faults_decide}
+use Rattle.answers.specs.Faults.{◌if◌, FaultsDecide}
+use Rattle.answers.proofs.Faults.{faults_decide}
 use Rattle.rounding.specs.Powers.{PowerOfTwo, is_power, power_found, power_pos, zero_no_power}
 
 -- ---- what is answered
@@ -88,36 +89,23 @@ NoPower a = (a ≡ 0) ⊎ (PowerOfTwo a → ⊥)
 abbrev pub NoneFits : ℕ → ℕ → ℕ → Type 0
 NoneFits w v a = (m : ℕ) → Multiple a m → v ≤ m → m < 2 ^ w → ⊥
 
-no_power : (a : ℕ) → NoPower a → PowerOfTwo a → ⊥
+pub no_power : (a : ℕ) → NoPower a → PowerOfTwo a → ⊥
 no_power a (inl e) p = zero_no_power (rw e at p)
 no_power a (inr n) p = n p
 
 module _ (w v a : ℕ) (held : a < 2 ^ w) where
-  power : T (not (not (is_power w a))) → PowerOfTwo a
+  pub power : T (not (not (is_power w a))) → PowerOfTwo a
   power t = (power_found w a held).0 (not_not (is_power w a) t)
     where
       not_not : (b : Bool) → T (not (not b)) → T b
       not_not true h = h
       not_not false h = h
 
-  finds_no_power : T (not (is_power w a)) ↔ NoPower a
+  pub finds_no_power : T (not (is_power w a)) ↔ NoPower a
   finds_no_power = (
     λ t. inr (λ p. T_not (is_power w a) t ((power_found w a held).1 p)),
     λ n. not_T (is_power w a) (λ t. no_power a n ((power_found w a held).0 t)),
   )
-
-  pub finds_none_fits : 0 < a → T (leb (2 ^ w) (up a v)) ↔ NoneFits w v a
-  finds_none_fits pos =
-      let bound = up_least a v pos in (
-        λ t m p l h. not-le_of_lt h (le_trans (leb→le (2 ^ w) (up a v) t) (bound.least m p l)),
-        λ none. le→leb (2 ^ w) (up a v) (le_of_not_lt (none (up a v) bound.multiple bound.not_below)),
-      )
-
-  pub align_up_faults : FaultsDecide (aligned_up w v a) (up a v) ((8 if NoPower a) ∷ (9 if NoneFits w v a) ∷ [])
-  unfolding aligned_up
-  align_up_faults =
-      faults_decide _ _ (up a v) (omega arith)
-      (refl, finds_no_power, λ t. (refl, finds_none_fits (power_pos a (power t)), λ _. tt))
 
   pub align_down_faults : FaultsDecide (aligned_down w v a) (down a v) ((8 if NoPower a) ∷ [])
   unfolding aligned_down
@@ -130,7 +118,7 @@ module _ (w v a : ℕ) (held : a < 2 ^ w) where
   -- ---- the promises: a value is given exactly when the alignment is a power of two and, for rounding up, the multiple fits
 
   -- where 8 is not given, the alignment is a power of two
-  power_else : (NoPower a → ⊥) → PowerOfTwo a
+  pub power_else : (NoPower a → ⊥) → PowerOfTwo a
   power_else h = power (not_T (not (is_power w a)) (λ t. h (finds_no_power.0 t)))
 
   -- a call that only 8 refuses
@@ -139,23 +127,6 @@ module _ (w v a : ℕ) (held : a < 2 ^ w) where
     λ e. (power_else (λ n. ((decide.accepts y).0 e).0 8 (inl (refl, n))), ((decide.accepts y).0 e).1),
     λ g. (decide.accepts y).1 (λ k. ⊎_elim (λ f. no_power a f.1 g.0) (λ f. f), g.1),
   )
-
-  pub align_up_promise : (r : ℕ) → (aligned_up w v a ≡ value r) ↔ (PowerOfTwo a × LeastNotBelow a v r × (r < 2 ^ w))
-  align_up_promise r = (given, giving)
-    where
-      given : aligned_up w v a ≡ value r → PowerOfTwo a × LeastNotBelow a v r × (r < 2 ^ w)
-      given said =
-          let accepted = (align_up_faults.accepts r).0 said in
-          let p = power_else (λ n. accepted.0 8 (inl (refl, n))) in
-          let none-fits = finds_none_fits (power_pos a p) in
-          rw (← accepted.1) (p, up_least a v (power_pos a p), lt_of_not-le (λ l. accepted.0 9 (inr (inl (refl, none-fits.0 (le→leb _ _ l))))))
-
-      giving : PowerOfTwo a × LeastNotBelow a v r × (r < 2 ^ w) → aligned_up w v a ≡ value r
-      giving g =
-          (align_up_faults.accepts r).1 (
-            λ k. ⊎_elim (λ f. no_power a f.1 g.0) (⊎_elim (λ f. f.1 r g.1.multiple g.1.not_below g.2) (λ f. f)),
-            least_unique a v (up a v) r (up_least a v (power_pos a g.0)) g.1,
-          )
 
   pub align_down_promise : (r : ℕ) → (aligned_down w v a ≡ value r) ↔ (PowerOfTwo a × GreatestNotAbove a v r)
   align_down_promise r =

@@ -1,7 +1,8 @@
 -- The contracts at 32 bits: `Multiples` at that width, and that each leaves one answer.
 use Rattle.std.specs.Prelude.{◌≡◌, ℕ}
 use Rattle.std.proofs.Common.{sym, ◌∙◌}
-use Rattle.answers.specs.Answers.{narrow_number_says, truth_says, narrow_number_says_injective, truth_says_injective}
+use Rattle.answers.specs.Answers.{narrow_number_says, truth_says}
+use Rattle.answers.proofs.Answers.{narrow_number_says_injective, truth_says_injective}
 use Rattle.answers.specs.declared.NarrowNumber.{NarrowNumber}
 use Rattle.answers.specs.declared.Truth.{Truth}
 use Rattle.rounding.specs.Multiples.{aligned_up, aligned_down, aligned}

@@ -1,7 +1,8 @@
 -- The contracts at 64 bits: `Multiples` at that width, and that each leaves one answer.
 use Rattle.std.specs.Prelude.{◌≡◌, ℕ}
 use Rattle.std.proofs.Common.{sym, ◌∙◌}
-use Rattle.answers.specs.Answers.{number_says, truth_says, number_says_injective, truth_says_injective}
+use Rattle.answers.specs.Answers.{number_says, truth_says}
+use Rattle.answers.proofs.Answers.{number_says_injective, truth_says_injective}
 use Rattle.answers.specs.declared.Number.{Number}
 use Rattle.answers.specs.declared.Truth.{Truth}
 use Rattle.rounding.specs.Multiples.{aligned_up, aligned_down, aligned}

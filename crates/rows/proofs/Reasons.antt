@@ -13,7 +13,8 @@ use lib.Dec.{T, leb, ltb, eqb, leb→le, le→leb, ltb→lt, lt→ltb}
 use lib.Pow.{pow_pos, pow-lt}
 use borrow.Author.Tests.{lt-ltb, le-ltb, lt-leb, le-leb, eq-eqb, ne_eqb, ltb-true, ltb-false, eqb-true, eqb-false, leb-true, leb-false, not-true, not-false}
 use Rattle.bits.specs.Range.{bit, and_true, and_false, or_false, either, same_test, within, within_named, within_found, finds_every, least, least_is, least_none, least_from, least_to, least_passes, least_first, count, count_agree, count_most, count_split, count_moved}
-use Rattle.bits.specs.Digits.{digit, number, digit_number, number_is, number_agree, number_lt, zero_digit, and_digit, or_digit, up_digit, bit_digit, power_digit, complement_digit, read_digit}
+use Rattle.bits.specs.Digits.{digit, number, number_agree, number_lt, zero_digit, up_digit, power_digit}
+use Rattle.bits.proofs.Digits.{digit_number, number_is, and_digit, or_digit, bit_digit, complement_digit, read_digit}
 use Rattle.slots.specs.Sets.{Slots, Named, all_free, all_used, finds_all_free, finds_all_used}
 use Rattle.slots.specs.Lowest.{free_from}
 use Rattle.slots.specs.Gaps.{having, has_value, has_other}

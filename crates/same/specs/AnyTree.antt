@@ -15,7 +15,8 @@ use Rattle.std.proofs.lemmas.Nat.{and_le_l, or_lt}
 use Rattle.std.proofs.Math.Pow.{pow-lt}
 use Rattle.std.proofs.lemmas.Bool.{eqb-false, not-false}
 use Rattle.bits.specs.Range.{either, same_test, count, count_agree, count_moved, count_split, count_most, and_true, and_false, or_true, or_false}
-use Rattle.bits.specs.Digits.{digit, zero_digit, equal_digits, and_digit, or_digit, complement_digit, power_digit}
+use Rattle.bits.specs.Digits.{digit, zero_digit, power_digit}
+use Rattle.bits.proofs.Digits.{equal_digits, and_digit, or_digit, complement_digit}
 use Rattle.slots.specs.Sets.{Slots, Named, painted, painted_named, painted_other, all_free, finds_all_free}
 use Rattle.slots.specs.Promises.{NoneFree}
 use Rattle.source.specs.Machine.{◌&◌, ◌∣◌, !u16, ◌at?◌, Turn, next, break, Loop, left, returned, ended, for_in}

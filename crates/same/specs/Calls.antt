@@ -11,7 +11,8 @@ use Rattle.answers.specs.Answers.{Reply, ok}
 use Rattle.bits.specs.Range.{either}
 use Rattle.slots.specs.Sets.{Slots, all_used, AllUsed, SomeFree, finds_all_used, finds_some_free}
 use Rattle.slots.specs.Calls.{says, past, take_call, set_call, free_call, next_free_call, get_call, empty_call, used_call}
-use Rattle.slots.specs.Promises.{Past, set_promise, set_after, free_promise, free_after, next_free_promise, next_free_decided, get_promise, used_promise}
+use Rattle.slots.specs.Promises.{Past, set_after, free_after, next_free_promise, next_free_decided, get_promise, used_promise}
+use Rattle.slots.proofs.Promises.{set_promise, free_promise}
 use Rattle.slots.specs.Kinds.{plain}
 use Rattle.slots.specs.View.{View, answered, changed, sound_answers, sound_accepted, sound_refused}
 use Rattle.source.specs.Machine.{gives}

@@ -18,13 +18,14 @@ use Rattle.answers.specs.declared.Number.{Number}
 use Rattle.answers.specs.declared.NarrowNumber.{NarrowNumber}
 use Rattle.answers.specs.declared.Truth.{Truth}
 use Rattle.bits.specs.Range.{either, same_test}
-use Rattle.bits.specs.Digits.{number_is, shifted_digit, low_mask_digit}
+use Rattle.bits.proofs.Digits.{number_is, shifted_digit, low_mask_digit}
 use Rattle.bits.specs.Masks.{one_bit, places, mask_between, OneBitSays, MaskSays}
 use Rattle.rounding.specs.Powers.{PowerOfTwo, is_power, power_found, power_exponent}
 use Rattle.rounding.specs.Multiples.{down, up, up_near, aligned_up, aligned_down, aligned}
 use Rattle.rounding.specs.Narrow as Narrow
 use Rattle.rounding.specs.Wide as Wide
-use Rattle.rounding.specs.Pages.{page_up, pages, page_offset, PageAlignUpSays, RoundToPagesSays, PageOffsetSays, page_align_up_faults, pages_end}
+use Rattle.rounding.specs.Pages.{page_up, pages, page_offset, PageAlignUpSays, RoundToPagesSays, PageOffsetSays, pages_end}
+use Rattle.rounding.proofs.PagesLemmas.{page_align_up_faults}
 use Rattle.spans.specs.Overlap.{meet, overlaps, OverlapSays}
 use Rattle.source.specs.Machine.{Run, gives, stops, ◌&◌}
 use Rattle.source.specs.Util.{added, !, align_up, align_down, is_aligned, page_align_up, round_to_pages, page_offset_lem, overlap, BIT, BIT-MASK}

@@ -18,7 +18,8 @@ use Rattle.bits.specs.Range.{either, count}
 use Rattle.slots.specs.Sets.{Slots, AllFree, all_free, painted}
 use Rattle.slots.specs.Lowest.{Fits, LowestFit, NoStart}
 use Rattle.slots.specs.Calls.{says, take_call}
-use Rattle.slots.specs.Promises.{NextFree, take_promise, take_no_room, take_after}
+use Rattle.slots.specs.Promises.{NextFree}
+use Rattle.slots.proofs.Promises.{take_promise, take_no_room, take_after}
 use Rattle.slots.specs.Search.{next_multiple, next_above, next_near, Searched, searched_none, searched_past, searched_found, searched_on}
 use Rattle.slots.specs.Kinds.{plain}
 use Rattle.slots.specs.View.{View, changed, sound_accepted, sound_refused}

@@ -6,7 +6,8 @@ use Rattle.std.proofs.Common.{ap₂, ◌∙◌, arith, length-append, take_at, e
 use mathlib.Core.List.{List, [], ◌∷◌, ◌++◌, map, flat_map}
 use Rattle.std.proofs.Math.ListN.{length-map, get_or-map}
 use Rattle.std.proofs.Math.Seq.{drop-append-add}
-use Rattle.bits.specs.Digits.{digit, number_is, digit_number}
+use Rattle.bits.specs.Digits.{digit}
+use Rattle.bits.proofs.Digits.{number_is, digit_number}
 use Rattle.slots.specs.Sets.{Slots, all_free}
 use Rattle.views.specs.Words.{listed, length_listed, listed_first, listed_is}
 use Rattle.views.specs.Marks.{marks_of}

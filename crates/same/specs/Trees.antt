@@ -6,7 +6,8 @@ use Rattle.std.proofs.Common.{ap, subst, ◌∙◌, map-id, arith}
 use Rattle.std.proofs.lemmas.Simd.{map-map}
 use Rattle.std.proofs.lemmas.List.{length-map}
 use Rattle.std.proofs.Math.ListN.{get_or-map}
-use Rattle.bits.specs.Digits.{digit, number_is, digit_number, number_lt, zero_digit}
+use Rattle.bits.specs.Digits.{digit, number_lt, zero_digit}
+use Rattle.bits.proofs.Digits.{number_is, digit_number}
 use Rattle.slots.specs.Sets.{Slots, all_free}
 use Rattle.views.specs.Painting.{slots_all, slot_there}
 use Rattle.views.specs.Words.{AreWords}

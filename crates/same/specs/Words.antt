@@ -12,7 +12,8 @@ use Rattle.std.proofs.Math.Dec.{leb}
 use Rattle.std.proofs.Math.Pow.{pow-lt}
 use borrow.Author.Tests.{le-ltb, le-leb, lt-leb, eq-eqb, ne_eqb, ltb-true, ltb-false, eqb-true}
 use Rattle.bits.specs.Range.{either, same_test, within, least, least_passes, least_first, or_false, or_true, and_false, and_true}
-use Rattle.bits.specs.Digits.{digit, number, number_is, number_lt, digit_number, and_digit, or_digit, complement_digit, low_mask_digit, power_digit, zero_digit, equal_digits, trailing_least}
+use Rattle.bits.specs.Digits.{digit, number, number_lt, power_digit, zero_digit, trailing_least}
+use Rattle.bits.proofs.Digits.{number_is, digit_number, and_digit, or_digit, complement_digit, low_mask_digit, equal_digits}
 use Rattle.slots.specs.Sets.{painted, all_free, finds_all_free}
 use Rattle.source.specs.Machine.{Run, gives, ◌&◌, ◌∣◌, !u64, trailing_ones}
 use Rattle.source.specs.BitmapAllocator.{Bitmap64, Allocator64, set64, next_free64, get64}

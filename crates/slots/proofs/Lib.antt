@@ -1,2 +1,15 @@
 pub mod Ways
 pub mod Outcomes
+pub mod Below
+pub mod Demands
+pub mod Gaps
+pub mod JobDemands
+pub mod Jobs
+pub mod Lesson
+pub mod Lowest
+pub mod Plain
+pub mod Promises
+pub mod Search
+pub mod Series
+pub mod Tries
+pub mod Turns

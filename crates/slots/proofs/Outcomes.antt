@@ -12,7 +12,7 @@ use Rattle.slots.specs.Sets.{Slots, painted}
 use Rattle.slots.specs.Kinds.{Kind, State, plain}
 use Rattle.slots.specs.Lowest.{Fits}
 use Rattle.slots.specs.Calls.{Call, says, take_call}
-use Rattle.slots.specs.Promises.{take_promise, take_after}
+use Rattle.slots.proofs.Promises.{take_promise, take_after}
 use Rattle.slots.specs.View.{View, answered, changed, accepted_sound, found_unsound, found_sound, says_refused, says_accepted}
 
 -- ---- check 1, by the flag of a branch on `!flag`

@@ -1,21 +1,21 @@
 -- Free, running, reaped. Each slot has two marks: that it is used, and that its job has ended and has been reaped. What each call on such states means, in
 -- a map of 2 ^ k, and what it promises: its faults with their numbers, and what an accepted call answers and leaves. Rests on `Promises` and on `Kinds`.
-use Rattle.std.specs.Prelude.{◌≡◌, ◌↔◌, Bool, not, ◌&&◌, List, [], ◌∷◌, ◌++◌, ℕ, ◌^◌, ◌<◌, T, leb}
+use Rattle.std.specs.Prelude.{◌≡◌, ◌↔◌, Bool, not, ◌&&◌, List, [], ◌∷◌, ◌++◌, ℕ, ◌^◌, ◌<◌, leb}
 use Rattle.std.proofs.Math.Path.{refl, sym}
-use Rattle.std.proofs.Common.{ap, ◌∙◌, inl, true≢false, arith, lt_of_not-le}
+use Rattle.std.proofs.Common.{ap, ◌∙◌, inl, arith, lt_of_not-le}
 use Rattle.std.proofs.Math.Logic.{⊎_elim}
 use Rattle.std.proofs.Math.Bool.{true, false}
 use Rattle.std.proofs.lemmas.Bool.{false≢true}
-use Rattle.answers.specs.Said.{Said, value, ◌when◌}
-use Rattle.answers.specs.Answers.{Reply, at, ok}
-use Rattle.answers.specs.Faults.{Fault, ◌if◌, FaultsDecide, finds_le, finds_eq}
-use Rattle.bits.specs.Range.{within, within_found, either}
-use Rattle.slots.specs.Sets.{Slots, Named, all_used, painted, finds_some_free, painted_named, painted_other}
+use Rattle.answers.specs.Said.{value, ◌when◌}
+use Rattle.answers.specs.Answers.{Reply, ok}
+use Rattle.answers.specs.Faults.{Fault, ◌if◌, finds_le}
+use Rattle.bits.specs.Range.{within, within_found}
+use Rattle.slots.specs.Sets.{Slots, Named, all_used, painted, painted_named, painted_other}
 use Rattle.slots.specs.Kinds.{Kind, State}
 use Rattle.slots.specs.Calls.{Call, says, range_checks, take_call}
 use Rattle.slots.specs.Lowest.{lowest}
 use Rattle.slots.specs.Records.{named_or_not}
-use Rattle.slots.specs.Promises.{Past, InRange, RefusedBy, ranged, finds_past, take_faults, get_faults, take_refused, take_promise, take_after, says_decided}
+use Rattle.slots.specs.Promises.{Past, InRange, RefusedBy, get_faults, says_decided}
 
 -- ---- the states
 
@@ -167,45 +167,7 @@ reap_faults k X s n = (2 if (n ≡ 0)) ∷ (4 if Past k s n) ∷ (13 if SomeIsNo
 abbrev pub record_faults : ℕ → State jobs → ℕ → ℕ → List Fault
 record_faults k X s n = (2 if (n ≡ 0)) ∷ (4 if Past k s n) ∷ (14 if SomeIsNot reaped X s n) ∷ []
 
--- where a test tells which slots are so
-module _ (S : Slots) (is : SlotState) (X : State jobs) (tells : (i : ℕ) → (S i ≡ true) ↔ (state_in X i ≡ is)) (s n : ℕ) where
-  finds_some_not : T (not (all_used S s n)) ↔ SomeIsNot is X s n
-  finds_some_not =
-      let found = finds_some_free S s n in (
-        λ t. let bad = found.0 t in (bad.0, bad.1, λ e. true≢false (sym ((tells bad.0).1 e) ∙ bad.2)),
-        λ bad. found.1 (bad.0, bad.1, either (S bad.0) (λ e. absurd (bad.2 ((tells bad.0).0 e))) (λ e. e)),
-      )
-
-  -- a call over a range that is refused where a slot is not so is accepted where the range is one and each slot is
-  accepts_all : (k r : ℕ) (said : Said Reply) → FaultsDecide said ok ((2 if (n ≡ 0)) ∷ (4 if Past k s n) ∷ (r if SomeIsNot is X s n) ∷ [])
-      → (said ≡ value ok) ↔ (InRange k s n × AllAre is X s n)
-  accepts_all k r said decided =
-      let accepted = ranged k s n r (SomeIsNot is X s n) said decided in (
-        λ e.
-            let g = accepted.0 e in
-            (g.0, λ i h. either (S i) (λ so. (tells i).0 so) (λ not_so. absurd (g.1 (i, h, λ so. true≢false (sym ((tells i).1 so) ∙ not_so))))),
-        λ g. accepted.1 (g.0, λ bad. bad.2 (g.1 bad.0 bad.1)),
-      )
-
 module _ (k : ℕ) (X : State jobs) where
-  pub start_refused : (n a : ℕ) → RefusedBy (start_call k X n a) (take_faults k (used_in X) n a)
-  unfolding start_call
-  start_refused n a = let taken = take_refused k (used_in X) n a in record { rising = taken.rising; finds = taken.finds }
-
-  pub reap_refused : (s n : ℕ) → RefusedBy (reap_call k X s n) (reap_faults k X s n)
-  unfolding reap_call
-  reap_refused s n = record {
-    rising = omega arith;
-    finds = (refl, finds_eq n 0, λ _. (refl, finds_past k s n, λ _. (refl, finds_some_not (running_in X) running X (running_means X) s n, λ _. tt)));
-  }
-
-  pub record_refused : (s n : ℕ) → RefusedBy (record_call k X s n) (record_faults k X s n)
-  unfolding record_call
-  record_refused s n = record {
-    rising = omega arith;
-    finds = (refl, finds_eq n 0, λ _. (refl, finds_past k s n, λ _. (refl, finds_some_not (reaped_in X) reaped X (reaped_means X) s n, λ _. tt)));
-  }
-
   pub state_refused : (i : ℕ) → RefusedBy (state_call k X i) (get_faults k i)
   unfolding state_call
   state_refused i = record { rising = omega arith; finds = (refl, finds_le (2 ^ k) i, λ _. tt) }
@@ -216,28 +178,6 @@ module _ (k : ℕ) (X : State jobs) where
   pub start_says : (n a : ℕ) → says (start_call k X n a) ≡ says (take_call k (used_in X) n a)
   unfolding says start_call
   start_says n a = refl
-
-  pub reap_decided : (s n : ℕ) → FaultsDecide (says (reap_call k X s n)) ok (reap_faults k X s n)
-  unfolding reap_call
-  reap_decided s n = says_decided (reap_call k X s n) (reap_faults k X s n) (reap_refused s n)
-
-  pub record_decided : (s n : ℕ) → FaultsDecide (says (record_call k X s n)) ok (record_faults k X s n)
-  unfolding record_call
-  record_decided s n = says_decided (record_call k X s n) (record_faults k X s n) (record_refused s n)
-
-  -- reap is accepted exactly when the range is one and each named slot is running; record, when each is reaped
-  pub reap_promise : (s n : ℕ) → (says (reap_call k X s n) ≡ value ok) ↔ (InRange k s n × AllAre running X s n)
-  reap_promise s n = accepts_all (running_in X) running X (running_means X) s n k 13 (says (reap_call k X s n)) (reap_decided s n)
-
-  pub record_promise : (s n : ℕ) → (says (record_call k X s n) ≡ value ok) ↔ (InRange k s n × AllAre reaped X s n)
-  record_promise s n = accepts_all (reaped_in X) reaped X (reaped_means X) s n k 14 (says (record_call k X s n)) (record_decided s n)
-
-  -- so one that is accepted, whatever it replies, has passed these checks
-  pub reap_passed : (s n : ℕ) (reply : Reply) → says (reap_call k X s n) ≡ value reply → InRange k s n × AllAre running X s n
-  reap_passed s n reply told = (reap_promise s n).0 (told ∙ ap value (sym (((reap_decided s n).accepts reply).0 told).1))
-
-  pub record_passed : (s n : ℕ) (reply : Reply) → says (record_call k X s n) ≡ value reply → InRange k s n × AllAre reaped X s n
-  record_passed s n reply told = (record_promise s n).0 (told ∙ ap value (sym (((record_decided s n).accepts reply).0 told).1))
 
   -- a slot's state is told where there is such a slot
   pub state_promise : (i : ℕ) (is : SlotState) → (says (state_call k X i) ≡ value is) ↔ ((i < 2 ^ k) × (state_in X i ≡ is))
@@ -257,53 +197,11 @@ module _ (k : ℕ) (X : State jobs) where
     pub are : AllAre to Y s n
     pub others : (i : ℕ) → (Named s n i → ⊥) → state_in Y i ≡ state_in X i
 
-  pub start_moves : jobs.Right X → (n a o : ℕ) → says (start_call k X n a) ≡ value (at o) → Moves (start_call k X n a).after o n free running
-  unfolding start_call
-  start_moves right n a o said =
-      let told = sym (start_says n a) ∙ said in
-      let granted = (take_promise k (used_in X) n a o).0 told in
-      let left = take_after k (used_in X) n a o told in
-      let unused = granted.3.fits.free in
-      let unreaped : (i : ℕ) → Named o n i → X (reaped_at i) ≡ false = λ i h. either (X (reaped_at i)) (λ r. absurd (true≢false (sym (right i r) ∙ unused i h))) (λ r. r) in
-      record {
-        range = (granted.0, granted.3.fits.ends);
-        were = λ i h. free_means X i (unused i h) (unreaped i h);
-        are = λ i h. rw (left, painted_named (used_in X) o n true i h, unreaped i h);
-        others = λ i h. rw (left, painted_other (used_in X) o n true i h);
-      }
-
-  pub reap_moves : (s n : ℕ) (reply : Reply) → says (reap_call k X s n) ≡ value reply → Moves (reap_call k X s n).after s n running reaped
-  unfolding reap_call
-  reap_moves s n reply said =
-      let passed = reap_passed s n reply said in
-      record {
-        range = passed.0;
-        were = passed.1;
-        are = λ i h. (reaped_means (reap_call k X s n).after i).0 (painted_named (reaped_in X) s n true i h);
-        others = λ i h. rw (painted_other (reaped_in X) s n true i h);
-      }
-
-  pub record_moves : (s n : ℕ) (reply : Reply) → says (record_call k X s n) ≡ value reply → Moves (record_call k X s n).after s n reaped free
-  unfolding record_call
-  record_moves s n reply said =
-      let passed = record_passed s n reply said in
-      record {
-        range = passed.0;
-        were = passed.1;
-        are = λ i h. free_means (record_call k X s n).after i (painted_named (used_in X) s n false i h) (painted_named (reaped_in X) s n false i h);
-        others = λ i h. rw (painted_other (used_in X) s n false i h, painted_other (reaped_in X) s n false i h);
-      }
-
   -- and keeps the rule
   pub start_keeps : jobs.Right X → (n a : ℕ) → jobs.Right (start_call k X n a).after
   unfolding start_call take_call
   start_keeps right n a i r =
       named_or_not (lowest k (used_in X) n a) n i (painted_named (used_in X) _ n true i) (λ h. painted_other (used_in X) _ n true i h ∙ right i r)
-
-  pub reap_keeps : jobs.Right X → (s n : ℕ) (reply : Reply) → says (reap_call k X s n) ≡ value reply → jobs.Right (reap_call k X s n).after
-  unfolding reap_call
-  reap_keeps right s n reply said i r =
-      named_or_not s n i (λ h. running_used X i ((reap_passed s n reply said).1 i h)) (λ h. right i (sym (painted_other (reaped_in X) s n true i h) ∙ r))
 
   pub record_keeps : jobs.Right X → (s n : ℕ) → jobs.Right (record_call k X s n).after
   unfolding record_call

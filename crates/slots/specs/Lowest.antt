@@ -1,10 +1,10 @@
 -- The lowest aligned start for n slots in a map of 2 ^ k. Rests on `Sets`.
 use Rattle.std.specs.Prelude.{◌≡◌, ◌↔◌, Bool, not, ◌&&◌, T, leb, eqb}
-use Prim.Native.Nat.{ℕ, ◌+◌, ◌-◌, ◌%◌, ◌^◌, ◌≤◌, ◌<◌, min, zero-le}
-use Rattle.std.proofs.Common.{le_antisymm, le_of_lt, arith, leb→le, le→leb}
+use Prim.Native.Nat.{ℕ, ◌+◌, ◌-◌, ◌%◌, ◌^◌, ◌≤◌, ◌<◌, min}
+use Rattle.std.proofs.Common.{le_antisymm, le_of_lt}
 use Rattle.std.proofs.Math.Nat.{min-eq_left}
 use Rattle.answers.specs.Faults.{finds_le, finds_both}
-use Rattle.bits.specs.Range.{least, least_passes, least_first, le_of_not_lt}
+use Rattle.bits.specs.Range.{least}
 use Rattle.rounding.specs.Multiples.{Multiple, divides}
 use Rattle.slots.specs.Sets.{Slots, all_free, AllFree, finds_all_free}
 
@@ -54,25 +54,6 @@ module _ (k : ℕ) (S : Slots) (n a : ℕ) where
         λ t. let g = found.0 t in record { aligned = g.0; ends = g.1.0; free = g.1.1 },
         λ f. found.1 (f.aligned, (f.ends, f.free)),
       )
-
-  none_below : (p : ℕ) → p < lowest k S n a → Fits k S n a p → ⊥
-  unfolding lowest
-  none_below p lt f = rw (least_first (fits_at k S n a) 0 (2 ^ k) p zero-le lt) at ((finds_fit p).1 f)
-
-  -- where a start was found, it is the lowest that fits
-  pub lowest_fits : lowest k S n a < 2 ^ k → LowestFit k S n a (lowest k S n a)
-  unfolding lowest
-  lowest_fits h = record {
-    fits = (finds_fit _).0 (rw (least_passes (fits_at k S n a) 0 (2 ^ k) (omega arith)) tt);
-    lowest_start = λ p f. le_of_not_lt (λ lt. none_below p lt f);
-  }
-
-  -- where none was found no start fits, of a run that has a slot
-  pub finds_no_start : 0 < n → T (leb (2 ^ k) (lowest k S n a)) ↔ NoStart k S n a
-  finds_no_start pos = (
-    λ t o f. none_below o (omega (arith, leb→le (2 ^ k) (lowest k S n a) t, f.ends)) f,
-    λ none. le→leb (2 ^ k) (lowest k S n a) (le_of_not_lt (λ lt. none _ (lowest_fits lt).fits)),
-  )
 
   -- there is one lowest start
   pub lowest_unique : (o p : ℕ) → LowestFit k S n a o → LowestFit k S n a p → o ≡ p

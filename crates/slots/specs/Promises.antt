@@ -1,16 +1,17 @@
 -- What each call promises on a set, in document 01's words: its faults with their numbers, and what an accepted call answers. Rests on `Calls`.
-use Rattle.std.specs.Prelude.{◌≡◌, ◌↔◌, ◌⊎◌, Bool, true, false, not, List, [], ◌∷◌, ℕ, ◌+◌, ◌-◌, ◌^◌, ◌≤◌, ◌<◌, leb, ltb, eqb}
+use Rattle.std.specs.Prelude.{◌≡◌, ◌↔◌, ◌⊎◌, Bool, true, false, not, List, [], ◌∷◌, ℕ, ◌+◌, ◌-◌, ◌^◌, ◌≤◌, ◌<◌, leb, ltb}
 use Rattle.std.proofs.Math.Path.{refl, ap}
-use Rattle.std.proofs.Common.{sym, ◌∙◌, inl, inr, ⊎_elim, true≢false, zero-le, pos_of_ne-zero, lt_of_not-le, le_antisymm, le_of_eq, arith, leb→le, le→leb, T_not}
+use Rattle.std.proofs.Common.{sym, ◌∙◌, inl, inr, ⊎_elim, true≢false, zero-le, pos_of_ne-zero, lt_of_not-le, le_antisymm, arith, leb→le, le→leb}
 use Rattle.std.proofs.Math.Dec.{T, nleb→lt}
 use Rattle.std.proofs.lemmas.Bool.{not-true, not-false}
 use Rattle.answers.specs.Said.{Said, value, refused, judged, leaving_says, leaving_refused, leaving_value, value_injective}
-use Rattle.answers.specs.Faults.{Fault, ◌if◌, Rising, Finds, FaultsDecide, faults_decide, finds_lt, finds_le, finds_eq, finds_either}
+use Rattle.answers.specs.Faults.{Fault, ◌if◌, Rising, Finds, FaultsDecide, finds_lt, finds_le, finds_either}
+use Rattle.answers.proofs.Faults.{faults_decide}
 use Rattle.answers.specs.Answers.{Reply, at, ok}
-use Rattle.bits.specs.Range.{least, count, either, same_test, least_from, least_passes, least_first, le_of_not_lt}
-use Rattle.slots.specs.Sets.{Slots, all_free, finds_all_free, painted, AllFree, AllUsed, SomeUsed, SomeFree, finds_some_used, finds_some_free}
-use Rattle.slots.specs.Lowest.{lowest, free_from, free_from_inside, LowestFit, NoStart, finds_no_start, lowest_fits, lowest_unique}
-use Rattle.slots.specs.Calls.{Call, says, leaves, past, take_call, claim_call, free_call, set_call, next_free_call, get_call, empty_call, used_call}
+use Rattle.bits.specs.Range.{least, count, same_test, least_from, least_passes, least_first, le_of_not_lt}
+use Rattle.slots.specs.Sets.{Slots, all_free, finds_all_free, painted, SomeUsed, SomeFree}
+use Rattle.slots.specs.Lowest.{free_from, free_from_inside, NoStart}
+use Rattle.slots.specs.Calls.{Call, says, leaves, past, claim_call, free_call, set_call, next_free_call, get_call, empty_call, used_call}
 
 -- ---- the faults of document 01's table
 
@@ -49,9 +50,6 @@ pub record RefusedBy {X A : Type 0} (c : Call X A) (fs : List Fault) : Type 0 wh
 pub finds_past : (k s n : ℕ) → T (past k s n) ↔ Past k s n
 finds_past k s n = finds_either (ltb (2 ^ k) s) (ltb (2 ^ k - s) n) (finds_lt (2 ^ k) s) (finds_lt (2 ^ k - s) n)
 
-has_entries : (n : ℕ) → T (not (eqb n 0)) → 0 < n
-has_entries n t = pos_of_ne-zero (λ e. T_not (eqb n 0) t ((finds_eq n 0).1 e))
-
 finds_none_free : (k : ℕ) (S : Slots) (s : ℕ) → s < 2 ^ k → T (leb (2 ^ k) (free_from k S s)) ↔ NoneFree k S s
 finds_none_free k S s h =
     let slot = least (λ i. not (S i)) s (2 ^ k - s) in
@@ -60,31 +58,6 @@ finds_none_free k S s h =
       λ none. le→leb (2 ^ k) slot (le_of_not_lt (λ lt.
           true≢false (sym (none slot (least_from (λ i. not (S i)) s (2 ^ k - s)) lt) ∙ not-true (S slot) (least_passes (λ i. not (S i)) s (2 ^ k - s) (omega arith))))),
     )
-
-pub take_refused : (k : ℕ) (S : Slots) (n a : ℕ) → RefusedBy (take_call k S n a) (take_faults k S n a)
-unfolding take_call
-take_refused k S n a = record {
-  rising = omega arith;
-  finds = (refl, finds_eq n 0, λ some. (refl, finds_le k a, λ _. (refl, finds_lt (2 ^ k) n, λ _. (refl, finds_no_start k S n a (has_entries n some), λ _. tt))));
-}
-
-pub claim_refused : (k : ℕ) (S : Slots) (s n : ℕ) → RefusedBy (claim_call k S s n) (claim_faults k S s n)
-unfolding claim_call
-claim_refused k S s n = record {
-  rising = omega arith;
-  finds = (refl, finds_eq n 0, λ _. (refl, finds_past k s n, λ _. (refl, finds_some_used S s n, λ _. tt)));
-}
-
-pub free_refused : (k : ℕ) (S : Slots) (s n : ℕ) → RefusedBy (free_call k S s n) (free_faults k S s n)
-unfolding free_call
-free_refused k S s n = record {
-  rising = omega arith;
-  finds = (refl, finds_eq n 0, λ _. (refl, finds_past k s n, λ _. (refl, finds_some_free S s n, λ _. tt)));
-}
-
-pub set_refused : (k : ℕ) (S : Slots) (s n : ℕ) (v : Bool) → RefusedBy (set_call k S s n v) (set_faults k s n)
-unfolding set_call
-set_refused k S s n v = record { rising = omega arith; finds = (refl, finds_eq n 0, λ _. (refl, finds_past k s n, λ _. tt)) }
 
 pub next_free_refused : (k : ℕ) (S : Slots) (s : ℕ) → RefusedBy (next_free_call k S s) (next_free_faults k S s)
 unfolding next_free_call
@@ -113,56 +86,6 @@ says_decided c fs h = faults_decide c.checks fs c.answer (rising_lower fs h.risi
 
 -- ---- what an accepted call answers
 
-at_injective : {m n : ℕ} → at m ≡ at n → m ≡ n
-at_injective e = cc
-
-module _ (k : ℕ) (S : Slots) (n a : ℕ) where
-  pub take_decided : FaultsDecide (says (take_call k S n a)) (at (lowest k S n a)) (take_faults k S n a)
-  unfolding take_call
-  take_decided = says_decided (take_call k S n a) (take_faults k S n a) (take_refused k S n a)
-
-  found : 0 < n → (NoStart k S n a → ⊥) → lowest k S n a < 2 ^ k
-  found pos some = lt_of_not-le (λ l. some ((finds_no_start k S n a pos).0 (le→leb _ _ l)))
-
-  -- take: the start is a multiple of 2 ^ a, its run ends within the capacity and was free, and no smaller start is so
-  pub take_promise : (o : ℕ) → (says (take_call k S n a) ≡ value (at o)) ↔ ((0 < n) × (a < k) × (n ≤ 2 ^ k) × LowestFit k S n a o)
-  take_promise o = (
-    λ said.
-        let accepted = (take_decided.accepts (at o)).0 said in
-        let no-fault = accepted.0 in
-        let same : lowest k S n a ≡ o = at_injective accepted.1 in
-        let pos : 0 < n = pos_of_ne-zero (λ e. no-fault 2 (inl (refl, e))) in (
-          pos,
-          lt_of_not-le (λ l. no-fault 3 (inr (inl (refl, l)))),
-          le_of_not_lt (λ l. no-fault 4 (inr (inr (inl (refl, l))))),
-          rw same at (lowest_fits k S n a (found pos (λ none. no-fault 7 (inr (inr (inr (inl (refl, none)))))))),
-        ),
-    λ g.
-        let there = found g.0 (λ none. none o g.3.fits) in
-        (take_decided.accepts (at o)).1 (
-          λ j. ⊎_elim (λ f. omega (arith, f.1, g.0)) (⊎_elim (λ f. omega (arith, f.1, g.1)) (⊎_elim (λ f. omega (arith, f.1, g.2)) (⊎_elim (λ f. f.1 o g.3.fits) (λ f. f)))),
-          ap at (lowest_unique k S n a (lowest k S n a) o (lowest_fits k S n a there) g.3),
-        ),
-  )
-
-  -- with numbers that pass it is refused for room exactly when no start fits
-  pub take_no_room : 0 < n → a < k → n ≤ 2 ^ k → (says (take_call k S n a) ≡ refused 7) ↔ NoStart k S n a
-  take_no_room pos small few = (
-    λ said.
-        ⊎_elim (λ f. absurd (omega (arith, f.1))) (⊎_elim (λ f. absurd (omega (arith, f.1))) (⊎_elim (λ f. absurd (omega (arith, f.1))) (⊎_elim (λ f. f.1) (λ f. absurd f))))
-        ((take_decided.refuses 7).0 said).0,
-    λ none.
-        (take_decided.refuses 7).1 (
-          inr (inr (inr (inl (refl, none)))),
-          λ j. ⊎_elim (λ f. absurd (omega (arith, f.1))) (⊎_elim (λ f. absurd (omega (arith, f.1))) (⊎_elim (λ f. absurd (omega (arith, f.1))) (⊎_elim (λ f. le_of_eq (sym f.0)) (λ f. absurd f)))),
-        ),
-  )
-
-  -- and exactly its run is added
-  pub take_after : (o : ℕ) → says (take_call k S n a) ≡ value (at o) → (take_call k S n a).after ≡ painted S o n true
-  unfolding take_call
-  take_after o said = ap (λ (start : ℕ). painted S start n true) (at_injective ((take_decided.accepts (at o)).0 said).1)
-
 -- a range of n slots from s on that has a slot and ends within the capacity
 abbrev pub InRange : ℕ → ℕ → ℕ → Type 0
 InRange k s n = (0 < n) × (s + n ≤ 2 ^ k)
@@ -171,7 +94,7 @@ pub in_range : (k s n : ℕ) → (n ≡ 0 → ⊥) → (Past k s n → ⊥) → 
 in_range k s n some inside =
     (pos_of_ne-zero some, omega (arith, le_of_not_lt (λ l. inside (inl l)), le_of_not_lt (λ l. inside (inr l))))
 
-not_past : (k s n : ℕ) → InRange k s n → Past k s n → ⊥
+pub not_past : (k s n : ℕ) → InRange k s n → Past k s n → ⊥
 not_past k s n r (inl l) = omega (arith, r.0, r.1)
 not_past k s n r (inr l) = omega (arith, r.0, r.1)
 
@@ -190,46 +113,6 @@ ranged k s n r P said decided = (
 )
 
 module _ (k : ℕ) (S : Slots) (s n : ℕ) where
-  pub claim_decided : FaultsDecide (says (claim_call k S s n)) ok (claim_faults k S s n)
-  unfolding claim_call
-  claim_decided = says_decided (claim_call k S s n) (claim_faults k S s n) (claim_refused k S s n)
-
-  pub free_decided : FaultsDecide (says (free_call k S s n)) ok (free_faults k S s n)
-  unfolding free_call
-  free_decided = says_decided (free_call k S s n) (free_faults k S s n) (free_refused k S s n)
-
-  pub set_decided : (v : Bool) → FaultsDecide (says (set_call k S s n v)) ok (set_faults k s n)
-  unfolding set_call
-  set_decided v = says_decided (set_call k S s n v) (set_faults k s n) (set_refused k S s n v)
-
-  -- claim is accepted exactly when the range is one and each named slot is free; free, when each is used; set, when the range is one
-  pub claim_promise : (says (claim_call k S s n) ≡ value ok) ↔ (InRange k s n × AllFree S s n)
-  claim_promise =
-      let decided = ranged k s n 6 (SomeUsed S s n) (says (claim_call k S s n)) claim_decided in (
-        λ e. let g = decided.0 e in (g.0, λ i h. either (S i) (λ used. absurd (g.1 (i, h, used))) (λ free. free)),
-        λ g. decided.1 (g.0, λ bad. true≢false (sym bad.2 ∙ g.1 bad.0 bad.1)),
-      )
-
-  pub free_promise : (says (free_call k S s n) ≡ value ok) ↔ (InRange k s n × AllUsed S s n)
-  free_promise =
-      let decided = ranged k s n 5 (SomeFree S s n) (says (free_call k S s n)) free_decided in (
-        λ e. let g = decided.0 e in (g.0, λ i h. either (S i) (λ used. used) (λ free. absurd (g.1 (i, h, free)))),
-        λ g. decided.1 (g.0, λ bad. true≢false (sym (g.1 bad.0 bad.1) ∙ bad.2)),
-      )
-
-  -- so one that is accepted, whatever it replies, has passed these checks
-  pub claim_passed : (reply : Reply) → says (claim_call k S s n) ≡ value reply → InRange k s n × AllFree S s n
-  claim_passed reply told = claim_promise.0 (told ∙ ap value (sym ((claim_decided.accepts reply).0 told).1))
-
-  pub free_passed : (reply : Reply) → says (free_call k S s n) ≡ value reply → InRange k s n × AllUsed S s n
-  free_passed reply told = free_promise.0 (told ∙ ap value (sym ((free_decided.accepts reply).0 told).1))
-
-  pub set_promise : (v : Bool) → (says (set_call k S s n v) ≡ value ok) ↔ InRange k s n
-  set_promise v = (
-    λ e. let none = (((set_decided v).accepts ok).0 e).0 in in_range k s n (λ z. none 2 (inl (refl, z))) (λ p. none 4 (inr (inl (refl, p)))),
-    λ g. ((set_decided v).accepts ok).1 (λ j. ⊎_elim (λ f. omega (arith, f.1, g.0)) (⊎_elim (λ f. not_past k s n g f.1) (λ f. f)), refl),
-  )
-
   -- and exactly the named slots change
   pub claim_after : (claim_call k S s n).after ≡ painted S s n true
   unfolding claim_call

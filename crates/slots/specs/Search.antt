@@ -1,12 +1,12 @@
 -- The search that take makes, over the capacity: what is known at each try, why the next try passes over no start that fits, and when it may
 -- stop. The loops of the word and of the tree cite these. Rests on `Lowest` and on `Promises`.
-use Rattle.std.specs.Prelude.{◌≡◌, refl, ℕ, ◌+◌, ◌*◌, ◌/◌, ◌^◌, ◌≤◌, ◌<◌}
-use Rattle.std.proofs.Common.{sym, ◌∙◌, true≢false, le_trans, lt_of_not-le, zero-mul, one-mul, add-mul, mul-le-mul_right, lt_of_mul-lt-mul_right, div-mul-le_self, arith, leb→le, le→leb, pow_pos}
+use Rattle.std.specs.Prelude.{refl, ℕ, ◌+◌, ◌*◌, ◌/◌, ◌^◌, ◌≤◌, ◌<◌}
+use Rattle.std.proofs.Common.{sym, ◌∙◌, true≢false, le_trans, zero-mul, one-mul, add-mul, mul-le-mul_right, lt_of_mul-lt-mul_right, div-mul-le_self, arith, pow_pos}
 use Rattle.std.proofs.Math.Nat.{lt-div-mul-add}
 use Rattle.bits.specs.Range.{le_of_not_lt}
 use Rattle.rounding.specs.Multiples.{Multiple}
 use Rattle.slots.specs.Sets.{Slots, AllFree}
-use Rattle.slots.specs.Lowest.{lowest, Fits, LowestFit, NoStart, lowest_fits, lowest_unique, finds_no_start}
+use Rattle.slots.specs.Lowest.{Fits, LowestFit, NoStart}
 use Rattle.slots.specs.Promises.{NoneFree}
 
 -- the multiple of 2 ^ a that follows the place p
@@ -68,11 +68,3 @@ module _ (k : ℕ) (S : Slots) (n a : ℕ) (pos : 0 < n) where
     }
 
   -- ---- what the search then says
-
-  pub lowest_is : (o : ℕ) → LowestFit k S n a o → lowest k S n a ≡ o
-  lowest_is o found =
-      lowest_unique k S n a (lowest k S n a) o
-      (lowest_fits k S n a (lt_of_not-le (λ l. (finds_no_start k S n a pos).0 (le→leb _ _ l) o found.fits))) found
-
-  pub lowest_none : NoStart k S n a → 2 ^ k ≤ lowest k S n a
-  lowest_none none = leb→le _ _ ((finds_no_start k S n a pos).1 none)

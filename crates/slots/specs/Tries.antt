@@ -3,19 +3,16 @@
 use Rattle.std.specs.Prelude.{◌≡◌, Bool, true, false, [], ◌∷◌, ℕ, ◌+◌, ◌-◌, ◌*◌, ◌/◌, ◌%◌, ◌^◌, ◌≤◌, ◌<◌, leb, eqb}
 use Rattle.std.proofs.Math.Path.{sym}
 use Rattle.std.proofs.Common.{◌∙◌, zero-le, mod-eq_of_lt}
-use Rattle.std.proofs.Math.Bool.{true≢false}
-use Rattle.std.proofs.Math.Nat.{le_refl, le_antisymm}
 use native.Mathlib.Omega.{arith}
 use Rattle.std.proofs.Math.Pow.{pow-lt}
-use borrow.Author.Tests.{ne_eqb, le-ltb, lt-leb, le-leb, eqb-true, eqb-false}
+use borrow.Author.Tests.{ne_eqb, le-ltb, lt-leb, le-leb}
 use Rattle.answers.specs.Said.{Said, value, refused, ◌when◌, judged, on_value, judged_found, judged_passed, judged_next, judged_on_value}
 use Rattle.answers.specs.Answers.{at}
-use Rattle.bits.specs.Range.{either}
 use Rattle.slots.specs.Sets.{Slots, all_free, AllFree, finds_all_free}
-use Rattle.slots.specs.Lowest.{lowest, free_from, Fits, LowestFit, NoStart}
+use Rattle.slots.specs.Lowest.{lowest, free_from}
 use Rattle.slots.specs.Calls.{says, take_call, next_free_call}
 use Rattle.slots.specs.Promises.{NextFree, NoneFree, next_free_promise, next_free_none}
-use Rattle.slots.specs.Search.{Searched, next_multiple, next_above, next_near, searched_none, searched_on, lowest_is, lowest_none}
+use Rattle.slots.specs.Search.{Searched, next_multiple, next_near, searched_none}
 
 -- a slot below the capacity, or no room
 unfoldable pub slot_or_none : ℕ → ℕ → Said ℕ
@@ -73,49 +70,6 @@ pub record Trying (k : ℕ) (S : Slots) (n a start : ℕ) : Type 0 where
 module _ (k : ℕ) (S : Slots) (n a : ℕ) (pos : 0 < n) where
   pub trying_first : Trying k S n a 0
   trying_first = record { known = searched_none k S n a pos; near = zero-le }
-
-  -- nothing fits, or this is the lowest that does
-  pub says_none : NoStart k S n a → refused 7 ≡ slot_or_none k (lowest k S n a)
-  says_none none = says_room_none k (lowest k S n a) (lowest_none k S n a pos none)
-
-  pub says_found : (start : ℕ) → LowestFit k S n a start → value start ≡ slot_or_none k (lowest k S n a)
-  says_found start found = rw (lowest_is k S n a pos start found) (says_room_found k start (omega (arith, found.fits.ends)))
-
-  module _ (start : ℕ) (ends : start + n ≤ 2 ^ k) (free : ℕ) (next : Ahead k S start free) where
-    -- the place that the next try follows: nothing fits from the try up to it, where the run at the try is not free
-    passed : (p : ℕ) × (next_try start free a ≡ next_multiple a p) × (start ≤ p) × (p < 2 ^ k)
-        × ((free ≡ start → AllFree S start n → ⊥) → (o : ℕ) → start ≤ o → o ≤ p → Fits k S n a o → ⊥)
-    unfolding next_try
-    passed =
-        either (eqb free start)
-        (λ e. (
-          start,
-          rw e,
-          le_refl start,
-          omega arith,
-          λ not_Free o l h f.
-              let same : start ≡ o = le_antisymm l h in
-              not_Free (eqb-true free start e) (rw same f.free),
-        ))
-        (λ e. (
-          free - 1,
-          rw e,
-          omega (arith, next.from, eqb-false free start e),
-          omega (arith, next.inside),
-          λ not_Free o l h f.
-              true≢false (sym (next.first o l (omega (arith, next.from, eqb-false free start e))) ∙ f.free o (omega arith, omega arith)),
-        ))
-
-    -- the next try is above this one
-    pub try_later : start < next_try start free a
-    try_later = rw passed.1 (omega (arith, next_above a passed.0, passed.2))
-
-    -- and passes over no start that fits
-    pub try_on : Trying k S n a start → (free ≡ start → AllFree S start n → ⊥) → Trying k S n a (next_try start free a)
-    try_on try not_Free = record {
-      known = rw passed.1 (searched_on k S n a pos start try.known passed.0 passed.2 (passed.4 not_Free));
-      near = rw passed.1 (omega (arith, next_near a passed.0, passed.3));
-    }
 
 -- ---- the run at a try, as a flag shows it
 

@@ -6,7 +6,8 @@ use Rattle.std.proofs.Common.{sym, ap, subst, ◌∙◌}
 use native.Mathlib.Omega.{arith}
 use borrow.Author.Tests.{ltb-true, ltb-false, not-false}
 use Rattle.answers.specs.Said.{Said, value, refused, ◌when◌, judged, judged_checked, leaving, leaving_says, leaving_refused, leaving_keeps}
-use Rattle.answers.specs.Faults.{Fault, ◌if◌, FaultsDecide, faults_decide, finds_not}
+use Rattle.answers.specs.Faults.{Fault, ◌if◌, FaultsDecide, finds_not}
+use Rattle.answers.proofs.Faults.{faults_decide}
 use Rattle.bits.specs.Range.{either, same_test}
 use Rattle.slots.specs.Kinds.{Kind, State}
 use Rattle.slots.specs.Calls.{Call, says, leaves}

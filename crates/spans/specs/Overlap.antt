@@ -2,8 +2,10 @@
 use Rattle.std.specs.Prelude.{◌≡◌, refl, ◌↔◌, ◌⊎◌, Bool, ◌||◌, [], ◌∷◌, ℕ, ◌≤◌, ◌<◌, min, max, T, leb, ltb}
 use Rattle.std.proofs.Common.{sym, ◌∙◌, inl, inr, ⊎_elim, arith, leb→le, le→leb}
 use Rattle.answers.specs.Said.{Said, value, ◌when◌, judged}
-use Rattle.answers.specs.Faults.{◌if◌, FaultsDecide, faults_decide, finds_lt, finds_either}
-use Rattle.answers.specs.Answers.{truth_says, truth_says_injective}
+use Rattle.answers.specs.Faults.{◌if◌, FaultsDecide, finds_lt, finds_either}
+use Rattle.answers.proofs.Faults.{faults_decide}
+use Rattle.answers.specs.Answers.{truth_says}
+use Rattle.answers.proofs.Answers.{truth_says_injective}
 use Rattle.answers.specs.declared.Truth.{Truth}
 use Rattle.bits.specs.Range.{le_of_not_lt, same_test}
 

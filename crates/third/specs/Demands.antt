@@ -2,14 +2,14 @@
 -- map's own beside it; and that each contract leaves one outcome.
 use Rattle.std.specs.Prelude.{◌≡◌, Bool, List, ℕ}
 use Rattle.std.proofs.Common.{sym, ap, ◌∙◌}
-use Rattle.answers.specs.Answers.{answer_says_injective, next_free_says_injective, truth_says_injective, number_says_injective}
+use Rattle.answers.proofs.Answers.{answer_says_injective, next_free_says_injective, truth_says_injective, number_says_injective}
 use Rattle.answers.specs.declared.NextFree.{NextFree}
 use Rattle.answers.specs.declared.Number.{Number}
 use Rattle.answers.specs.declared.Truth.{Truth}
 use Rattle.slots.specs.Sets.{none, all}
 use Rattle.slots.specs.Calls.{take_call, claim_call, free_call, set_call}
 use Rattle.slots.specs.View.{same_state, places_decide}
-use Rattle.slots.specs.Demands.{Demands, demanded}
+use Rattle.slots.proofs.Demands.{Demands, demanded}
 use Rattle.views.specs.Painting.{slot_in}
 use Rattle.views.specs.Words.{AreWords}
 use Rattle.third.specs.declared.Third.{Third}

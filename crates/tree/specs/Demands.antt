@@ -4,7 +4,8 @@ use Rattle.std.specs.Prelude.{◌≡◌, refl, Bool, true, false, List, [], ◌�
 use Rattle.std.proofs.Common.{sym, ap, ◌∙◌}
 use Rattle.answers.specs.Said.{Said, value, refused, value≢refused, value_injective, refused_injective}
 use Rattle.answers.specs.Refusals.{number_of}
-use Rattle.answers.specs.Answers.{Reply, answer_says, next_free_says, truth_says, number_says, answer_says_injective, next_free_says_injective, truth_says_injective, number_says_injective}
+use Rattle.answers.specs.Answers.{Reply, answer_says, next_free_says, truth_says, number_says}
+use Rattle.answers.proofs.Answers.{answer_says_injective, next_free_says_injective, truth_says_injective, number_says_injective}
 use Rattle.answers.specs.declared.NextFree.{NextFree}
 use Rattle.answers.specs.declared.Number.{Number}
 use Rattle.answers.specs.declared.Number.TheVariants.{Is, Refused}
@@ -18,7 +19,7 @@ use Rattle.slots.specs.Promises.{used_promise}
 use Rattle.slots.specs.Plain.{Asked, call_of}
 use Rattle.slots.specs.View.{same_state, places_decide, found_sound, found_unsound}
 use Rattle.slots.specs.Demands as Slots
-use Rattle.slots.specs.Demands.{Demands, demanded, Ran}
+use Rattle.slots.proofs.Demands.{Demands, demanded, Ran}
 use Rattle.views.specs.Painting.{slot_in}
 use Rattle.views.specs.Words.{listed}
 use Rattle.views.specs.Marks.{marks_of, marks_right}

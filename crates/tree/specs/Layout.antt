@@ -7,7 +7,7 @@ use Rattle.bits.specs.Digits.{digit}
 use Rattle.slots.specs.Sets.{Slots, SomeUsed, AllUsed}
 use Rattle.slots.specs.Kinds.{plain}
 use Rattle.slots.specs.Family.{Family}
-use Rattle.slots.specs.Plain.{plain_calls}
+use Rattle.slots.proofs.Plain.{plain_calls}
 use Rattle.slots.specs.View.{View}
 use Rattle.views.specs.Keeping.{carried, keeping, also}
 use Rattle.views.specs.Painting.{slot_in}

@@ -6,7 +6,8 @@ use Rattle.std.proofs.Math.Path.{ap, fun_ext}
 use Prim.Native.Nat.{ℕ, zero, suc, ◌+◌, ◌-◌, ◌*◌, ◌/◌, ◌%◌, ◌^◌, ◌≤◌, ◌<◌, min}
 use Rattle.std.proofs.Math.Dec.{eqb_refl}
 use Rattle.bits.specs.Range.{either}
-use Rattle.bits.specs.Digits.{digit, digit_number, zero_digit, low_mask_digit, equal_digits}
+use Rattle.bits.specs.Digits.{digit, zero_digit}
+use Rattle.bits.proofs.Digits.{digit_number, low_mask_digit, equal_digits}
 use Rattle.slots.specs.Sets.{Slots, Named, AllUsed}
 use Rattle.views.specs.Keeping.{Kept}
 use Rattle.views.specs.Painting.{slots_in, slot_in, word_there, slot_there, slot_past, slot_in_word}

@@ -3,7 +3,8 @@ use Rattle.std.specs.Prelude.{◌≡◌, refl, ◌↔◌, Bool, true, false, not
 use Rattle.std.proofs.Common.{sym, ap, ◌∙◌, zero-le, arith}
 use Rattle.answers.specs.Faults.{finds_both}
 use Rattle.bits.specs.Range.{every, finds_every, same_test}
-use Rattle.bits.specs.Digits.{digit, number, digit_number, number_lt, number_is}
+use Rattle.bits.specs.Digits.{digit, number, number_lt}
+use Rattle.bits.proofs.Digits.{digit_number, number_is}
 use Rattle.slots.specs.Kinds.{Kind, State}
 use Rattle.slots.specs.View.{View}
 

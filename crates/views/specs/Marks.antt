@@ -7,7 +7,8 @@ use Prim.Native.Nat.{ℕ, ◌*◌, ◌/◌, ◌^◌, ◌≤◌, ◌<◌, min}
 use Rattle.std.proofs.Math.ListN.{get_or-eq_default}
 use borrow.Author.Tests.{ltb-true, ltb-false}
 use Rattle.bits.specs.Range.{either, same_test}
-use Rattle.bits.specs.Digits.{digit, number, digit_number, number_agree}
+use Rattle.bits.specs.Digits.{digit, number, number_agree}
+use Rattle.bits.proofs.Digits.{digit_number}
 use Rattle.views.specs.Keeping.{Kept, BitsAgree, made_bits, only_bits, bits_kept}
 use Rattle.views.specs.Painting.{slots_in, end_in, reaches, painted_words, painted_long, kept_word}
 use Rattle.views.specs.Words.{words_view}

@@ -11,7 +11,8 @@ use Rattle.std.proofs.Math.Seq.{get_or-set_other, get_or-set_same}
 use Rattle.std.proofs.Math.Dec.{leb, ltb}
 use borrow.Author.Tests.{lt-ltb, le-ltb, lt-leb, le-leb, eqb-true, eqb-false, leb-true, ltb-true, ltb-false}
 use Rattle.bits.specs.Range.{and_false, either, same_test, within}
-use Rattle.bits.specs.Digits.{digit, number, digit_number, number_lt}
+use Rattle.bits.specs.Digits.{digit, number, number_lt}
+use Rattle.bits.proofs.Digits.{digit_number}
 use Rattle.slots.specs.Sets.{Slots, painted}
 use Rattle.places.specs.Places.{painted_in, painted_place}
 

@@ -4,7 +4,8 @@ use Rattle.std.specs.Prelude.{◌≡◌, ◌↔◌, Bool, true, false, not, List
 use Rattle.std.proofs.Common.{sym, ap, ◌∙◌, zero-le, arith, eqb→eq, pow_pos}
 use Rattle.std.proofs.lemmas.Bool.{not-false}
 use Rattle.bits.specs.Range.{same_test}
-use Rattle.bits.specs.Digits.{digit, number, digit_number, number_lt, number_agree, zero_digit, equal_digits}
+use Rattle.bits.specs.Digits.{digit, number, number_lt, number_agree, zero_digit}
+use Rattle.bits.proofs.Digits.{digit_number, equal_digits}
 use Rattle.slots.specs.Sets.{SomeUsed, all_free, finds_all_free, finds_some_used}
 use Rattle.views.specs.Keeping.{Kept, keeping, bits_kept}
 use Rattle.views.specs.Painting.{slot_in}

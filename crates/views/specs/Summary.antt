@@ -5,7 +5,8 @@ use Rattle.std.proofs.Math.Dec.{not_T}
 use Rattle.std.proofs.lemmas.Bool.{not-false}
 use Rattle.answers.specs.Faults.{finds_eq, finds_not}
 use Rattle.bits.specs.Range.{same_test}
-use Rattle.bits.specs.Digits.{digit, digit_number, number_lt, zero_digit, equal_digits}
+use Rattle.bits.specs.Digits.{digit, number_lt, zero_digit}
+use Rattle.bits.proofs.Digits.{digit_number, equal_digits}
 use Rattle.slots.specs.Sets.{Slots, Named, AllFree, SomeUsed, all_free, finds_all_free, finds_some_used}
 use Rattle.views.specs.Keeping.{Kept}
 use Rattle.views.specs.Painting.{slots_in, slot_in, slot_in_word}

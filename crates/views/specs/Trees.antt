@@ -4,7 +4,8 @@ use Rattle.std.specs.Prelude.{◌≡◌, refl, Bool, true, false, ◌&&◌, List
 use Rattle.std.proofs.Common.{sym, ap, ap₂, ◌∙◌, zero-le, zero-add, arith, length-drop, length-take-le, get_or-take, get_or-drop, ext_get_or, le-leb, lt-ltb, le-ltb, leb-false, ltb-false}
 use Rattle.std.proofs.lemmas.Bool.{lt-leb}
 use Rattle.bits.specs.Range.{either, and_false, count, count_agree, count_split, count_moved}
-use Rattle.bits.specs.Digits.{digit, digit_number}
+use Rattle.bits.specs.Digits.{digit}
+use Rattle.bits.proofs.Digits.{digit_number}
 use Rattle.views.specs.Keeping.{Kept}
 use Rattle.views.specs.Painting.{slots_in, slot_in, slot_there, end_in, reaches, painted_words, kept_word}
 use Rattle.views.specs.Words.{listed, listed_first, listed_agree, AreWords, words_view, slots_are, painted_are_words}

@@ -4,7 +4,8 @@ use Rattle.std.proofs.Common.{sym, ap, ◌∙◌, suc-add, add-suc, add-zero, ze
 use Rattle.std.proofs.Math.Path.{fun_ext}
 use Rattle.std.proofs.Math.ListN.{get_or-eq_default}
 use Rattle.bits.specs.Range.{either}
-use Rattle.bits.specs.Digits.{digit, number, digit_number, number_lt, number_digit, number_agree, past_digit}
+use Rattle.bits.specs.Digits.{digit, number, number_lt, number_digit, number_agree}
+use Rattle.bits.proofs.Digits.{digit_number, past_digit}
 use Rattle.slots.specs.Sets.{Slots, painted}
 use Rattle.slots.specs.Kinds.{plain}
 use Rattle.slots.specs.View.{View, made_alike}

@@ -3,13 +3,14 @@
 use Rattle.std.specs.Prelude.{◌≡◌, Bool, [], ◌∷◌, ℕ}
 use Rattle.std.proofs.Common.{sym, ◌∙◌}
 use Rattle.answers.specs.Said.{Said, value, value_injective}
-use Rattle.answers.specs.Answers.{Reply, answer_says, next_free_says, truth_says, answer_says_injective, next_free_says_injective, truth_says_injective}
+use Rattle.answers.specs.Answers.{Reply, answer_says, next_free_says, truth_says}
+use Rattle.answers.proofs.Answers.{answer_says_injective, next_free_says_injective, truth_says_injective}
 use Rattle.answers.specs.declared.NextFree.{NextFree}
 use Rattle.answers.specs.declared.Truth.{Truth}
 use Rattle.slots.specs.Calls.{take_call, claim_call, free_call, set_call}
 use Rattle.slots.specs.Plain.{Asked, call_of}
 use Rattle.slots.specs.Demands as Slots
-use Rattle.slots.specs.Demands.{Demands, demanded, Ran}
+use Rattle.slots.proofs.Demands.{Demands, demanded, Ran}
 use Rattle.word.specs.declared.Word.{Word}
 use Rattle.word.specs.declared.Changed.{Changed}
 use Rattle.word.specs.Layout.{slot_of, word_view}

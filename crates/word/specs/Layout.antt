@@ -5,7 +5,7 @@ use Rattle.bits.specs.Digits.{digit, number, number_agree}
 use Rattle.slots.specs.Sets.{Slots}
 use Rattle.slots.specs.Kinds.{plain}
 use Rattle.slots.specs.Family.{Family}
-use Rattle.slots.specs.Plain.{plain_calls}
+use Rattle.slots.proofs.Plain.{plain_calls}
 use Rattle.slots.specs.View.{View}
 use Rattle.views.specs.Keeping.{carried, seen_as}
 use Rattle.views.specs.Words as Words

@@ -11,7 +11,8 @@ use borrow.Author.Rules.{rules}
 use borrow.Author.Tests.{lt-ltb, le-ltb}
 use Rattle.answers.specs.Said.{value, judged}
 use Rattle.bits.specs.Range.{within, same_test}
-use Rattle.bits.specs.Digits.{number, digit_number, number_lt, equal_digits, run_digit}
+use Rattle.bits.specs.Digits.{number, number_lt}
+use Rattle.bits.proofs.Digits.{digit_number, equal_digits, run_digit}
 use Rattle.bits.specs.Masks.{mask_between, places}
 use Rattle.bits.proofs.mask.Goals as goal
 

@@ -18,7 +18,7 @@ loop-j-preserved c =
     let h = test in
     let asked = h.args in
     putting_on asked.word.now asked.list.now asked.count (asked.at, asked.text.now) (h.loop-j.end, h.loop-j.text) h.loop-j.j h.loop-j.invariant test.loop-j-test.true
-    first.wide.result second.wide-in-loop-j.result first.wide.ensures second.wide-in-loop-j.ensures (put.put_run-end.result, put.put_run-end.new.1.1.1.0) put.put_run-end.ensures
+    first.wide.result second.wide-in-loop-j.result first.wide.ensures second.wide-in-loop-j.ensures (put.put_run-end.result, put.put_run-end.new.text) put.put_run-end.ensures
 
 pub shape_of-text : goal.shape_of-text
 shape_of-text c = c.loop-j.invariant.long

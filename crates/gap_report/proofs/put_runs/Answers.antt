@@ -18,7 +18,7 @@ put_list-requires c =
     let told = c in
     let found = told in
     let entry = found in
-    let long : length found.runs-found.new.1.1.0 ≡ 1024 = search rules in
+    let long : length found.runs-found.new.list ≡ 1024 = search rules in
     let few = list_few entry.args.tree entry.args.used _ found.runs-found.result _ found.runs-found.ensures entry.requires (omega arith) _ told.in-Is.is in
     (omega (arith, long, few), omega (arith, long))
 

@@ -9,10 +9,10 @@ pub returns-then-used : goal.returns-then-used
 returns-then-used c =
     let found = c in
     let asked = found.args in
-    subst (λ (v : Bool). RunsSays asked.tree v asked.list.now found.used_runs.result found.used_runs.new.1.0) (sym found.if-used.true) found.used_runs.ensures
+    subst (λ (v : Bool). RunsSays asked.tree v asked.list.now found.used_runs.result found.used_runs.new.list) (sym found.if-used.true) found.used_runs.ensures
 
 pub returns : goal.returns
 returns c =
     let found = c in
     let asked = found.args in
-    subst (λ (v : Bool). RunsSays asked.tree v asked.list.now found.free_runs.result found.free_runs.new.1.0) (sym found.if-used.false) found.free_runs.ensures
+    subst (λ (v : Bool). RunsSays asked.tree v asked.list.now found.free_runs.result found.free_runs.new.list) (sym found.if-used.false) found.free_runs.ensures

@@ -12,12 +12,7 @@ use Rattle.tree.specs.Layout.{slot_of, tree_view}
 use Rattle.tree.specs.Demands.{refused_unsound, counted_sound}
 use Rattle.gap_report.proofs.Outcomes.{shown_unsound, shown_put}
 use Rattle.gap_report.proofs.write.Goals as goal
-use Rattle.gap_report.proofs.write.Lts as lts
-use Rattle.gap_report.proofs.write.Reads as reads
-use Rattle.gap_report.proofs.write.Tie as tie
-
-abbrev In-Is : Type 0
-In-Is = lts.After-known_told tie.the-claims reads.Pre reads.Post
+use Rattle.gap_report.proofs.write.Goals.{In-Is}
 
 pub returns-in_default : goal.returns-in_default
 returns-in_default c =
@@ -27,31 +22,26 @@ returns-in_default c =
     (λ i. ((ap number_says c.in_default.is ∙ ap (λ (k : ℕ). refused k) so.1) i, asked.text.now)) ∙ sym (shown_unsound asked.tree asked.text.now so.0)
 
 -- the tree is sound, and has so many used slots
-sound-at : (c : In-Is) → let t = c.args.tree in (tree_view.is_sound t ≡ true) × (c.in-Is.used-counted ≡ count (slot_of t) 0 1024)
+sound-at : (c : In-Is) → let t = c.args.tree in (tree_view.is_sound t ≡ true) × (c.in-Is.used ≡ count (slot_of t) 0 1024)
 sound-at c =
     let counted = c in
     counted_sound counted.args.tree _ counted.used-counted.ensures _ c.in-Is.is
 
 pub put_runs-after_free-requires : goal.put_runs-after_free-requires
-put_runs-after_free-requires c = (sound-at c.before.before.before).0
+put_runs-after_free-requires c = (sound-at (goal.at.put_runs-after_free-requires c).In-Is).0
 
 pub put_runs-after_used-requires : goal.put_runs-after_used-requires
-put_runs-after_used-requires c = (sound-at c.before.before.before.before.before.before.before).0
+put_runs-after_used-requires c = (sound-at (goal.at.put_runs-after_used-requires c).In-Is).0
 
 pub overflow_sub-used : goal.overflow_sub-used
-overflow_sub-used c =
-    let told = c.before.before.before.before.before.before.before.before.before.before in
-    omega (arith, (sound-at told).1, count_most (slot_of told.args.tree) 0 1024)
+overflow_sub-used c = omega (arith, (sound-at (goal.at.overflow_sub-used c).In-Is).1, count_most (slot_of c.args.tree) 0 1024)
 
 pub returns : goal.returns
 returns c =
-    let longest = c in
-    let helds = longest in
-    let free = helds in
-    let told = free.before.before.before.before.before.before.before.before.before.before.before.before in
-    let asked = told.args in
+    let told = (goal.at.returns c).In-Is in
+    let asked = c.args in
     let long : length asked.text.now ≡ 20480 = search rules in
     shown_put asked.tree asked.text.now (sound-at told).0 long _ (sound-at told).1
-    (free.put_runs-after_free.result, free.put_runs-after_free.new.1.1.1.0) (helds.put_runs-after_used.result, helds.put_runs-after_used.new.1.1.1.0)
-    (longest.put_longest-after_longest.result, longest.put_longest-after_longest.new.1.0) (c.put_slots.result, c.put_slots.new.1.0)
-    free.put_runs-after_free.ensures helds.put_runs-after_used.ensures longest.put_longest-after_longest.ensures c.put_slots.ensures
+    (c.put_runs-after_free.result, c.put_runs-after_free.new.text) (c.put_runs-after_used.result, c.put_runs-after_used.new.text)
+    (c.put_longest-after_longest.result, c.put_longest-after_longest.new.text) (c.put_slots.result, c.put_slots.new.text)
+    c.put_runs-after_free.ensures c.put_runs-after_used.ensures c.put_longest-after_longest.ensures c.put_slots.ensures

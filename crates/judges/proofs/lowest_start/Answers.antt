@@ -9,7 +9,8 @@ use Rattle.views.specs.Painting.{slot_in}
 use Rattle.views.specs.Full.{filled, seen_from, seen_used}
 use Rattle.slots.specs.Sets.{Slots, AllFree}
 use Rattle.slots.specs.Search.{searched_past, searched_full, searched_found}
-use Rattle.slots.specs.Tries.{Ahead, Trying, trying_first, next_found, next_none, says_none, says_found, run_free, run_not_free, try_later, try_on}
+use Rattle.slots.specs.Tries.{Ahead, Trying, trying_first, next_found, next_none, run_free, run_not_free}
+use Rattle.slots.proofs.Tries.{says_none, says_found, try_later, try_on}
 use Rattle.judges.specs.Sizes.{exponent_of, exponent_most, capacity_most}
 use Rattle.judges.proofs.lowest_start.Goals as goal
 use Rattle.judges.proofs.lowest_start.Goals.{then-free-start+else-fits, else-free-start}

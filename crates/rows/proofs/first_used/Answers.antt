@@ -8,7 +8,8 @@ use native.Mathlib.Omega.{arith}
 use lib.ListN.{get_or}
 use borrow.Author.Rules.{rules}
 use Rattle.bits.specs.Range.{least}
-use Rattle.bits.specs.Digits.{digit, complement_digit}
+use Rattle.bits.specs.Digits.{digit}
+use Rattle.bits.proofs.Digits.{complement_digit}
 use Rattle.slots.specs.Gaps.{having}
 use Rattle.views.specs.Painting.{slots_in, slot_in, slots_most, slot_past, word_there, end_in}
 use Rattle.views.specs.Full.{marked, filled, filled_slots, filled_open, filled_marked}

@@ -4,7 +4,8 @@ use mathlib.Core.Bool.{true}
 use borrow.Author.Rules.{rules}
 use Rattle.answers.specs.Answers.{answer_says}
 use Rattle.slots.specs.Calls.{claim_call}
-use Rattle.slots.specs.Promises.{claim_after, claim_passed}
+use Rattle.slots.specs.Promises.{claim_after}
+use Rattle.slots.proofs.Promises.{claim_passed}
 use Rattle.tree.specs.Layout.{slot_of}
 use Rattle.tree.proofs.Values.{is_tree}
 use Rattle.tree.proofs.Outcomes.{said_is, carries}

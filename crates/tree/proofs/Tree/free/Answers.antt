@@ -4,7 +4,8 @@ use mathlib.Core.Bool.{false}
 use borrow.Author.Rules.{rules}
 use Rattle.answers.specs.Answers.{answer_says}
 use Rattle.slots.specs.Calls.{free_call}
-use Rattle.slots.specs.Promises.{free_after, free_passed}
+use Rattle.slots.specs.Promises.{free_after}
+use Rattle.slots.proofs.Promises.{free_passed}
 use Rattle.tree.specs.Layout.{slot_of}
 use Rattle.tree.proofs.Values.{is_tree}
 use Rattle.tree.proofs.Outcomes.{said_is, carries}
