@@ -16,7 +16,10 @@ Of Rattle it knows `use` items, structs, enums and the heads of functions, laid 
 left edge closes, and what ends in the brace that opens a body, which stands alone on its line below a contract. A clause of
 a contract begins its line, with `requires` or `ensures`, a name where it has one, and a brace.
 
-A declaration of specs/ is a DEFINITION or a LAW. A definition is a `record`, a `data`, what is marked `abbrev` or
+A statement stands in specs/, or in a file right in proofs/ that is called as one of specs/, perhaps with `Lemmas` behind:
+what stood there and rests on theorems. Each other file of proofs/ is reasons alone.
+
+A declaration among the statements is a DEFINITION or a LAW. A definition is a `record`, a `data`, what is marked `abbrev` or
 `unfoldable`, and any other whose result is data. All else is a law: its type is a sentence, and its value a proof. Data
 are `Type`, the kit's ℕ, Bool, List and Unit, each type of ours that takes no values, as `Slots`, `Call A` or a struct, and
 products of these. A type that takes values, as `Fits k S n a o`, is a sentence about them.
@@ -499,8 +502,8 @@ class Crates:
         self.crates = {path.split("/")[1] for path in texts}
         self.sources = {path: readers[path.split("/")[2]](path, text) for path, text in texts.items()}
         self.types = {(*module_of(one.path), one.name): one for one in self.declared_in("src")}
-        self.headers = {source.path: self.header(source) for source in [*self.of("src"), *self.of("specs"), *self.lemmas()]}
-        for one in [*self.declared_in("specs"), *self.declared_in_lemmas()]:
+        self.headers = {source.path: self.header(source) for source in [*self.of("src"), *self.stated()]}
+        for one in self.statements():
             one.kind = self.kind_of(one)
 
     def of(self, place):
@@ -509,18 +512,24 @@ class Crates:
     def declared_in(self, place):
         return [one for source in self.of(place) for one in source.declarations]
 
-    def lemmas(self):
-        """The files right in proofs/: laws that are proved above specs/, and lemmas. What stands in a folder there is of one
-        function."""
-        return [source for source in self.of("proofs") if source.path.count("/") == 3]
+    def is_stated(self, source):
+        crate, place, *inner = source.path.split("/")[1:]
+        if place != "proofs" or len(inner) != 1:
+            return place == "specs"
+        stem = inner[0].removesuffix(".antt")
+        beside = [f"crates/{crate}/specs/{name}.antt" for name in (stem, stem.removesuffix("Lemmas"))]
+        return stem != "Lib" and any(path in self.sources for path in beside)
 
-    def declared_in_lemmas(self):
-        return [one for source in self.lemmas() for one in source.declarations]
+    def stated(self):
+        """The files of statements."""
+        return [source for source in self.sources.values() if self.is_stated(source)]
+
+    def statements(self):
+        """Their declarations."""
+        return [one for source in self.stated() for one in source.declarations]
 
     def laws(self):
-        """The laws of specs/, and those right in proofs/."""
-        every = [*self.declared_in("specs"), *self.declared_in_lemmas()]
-        return [one for one in every if one.kind == LAW]
+        return [one for one in self.statements() if one.kind == LAW]
 
     def libraries(self):
         """The sources in src/ of the crates that are libraries."""
@@ -553,18 +562,16 @@ class Crates:
         if not self.is_ours(one.module):
             return {name: None for name in one.names}
         declarations = self.behind(one.module)
-        if source.place == "proofs":
-            # what Rattle makes of the code, as goals, has a module too, and a file may hand on what it imports
-            known = {name: declared for declared in declarations or [] for name in [declared.name, *declared.inside]}
-            return {here: known.get(there) for here, there in one.names.items()}
-        if declarations is None:
+        # below proofs/ what Rattle makes of the code has modules too, as the goals
+        is_strict = source.place != "proofs" or one.module.split(".")[2] == "specs"
+        if declarations is None and is_strict:
             raise Wrong(f"{source.path} imports {one.module}, and specs/ has no such file, nor src/ such a type")
-        known = {name: declared for declared in declarations for name in [declared.name, *declared.inside]}
+        known = {name: declared for declared in declarations or [] for name in [declared.name, *declared.inside]}
         for name in one.names.values():
-            if name not in known:
+            if name not in known and is_strict:
                 raise Wrong(f"{source.path} imports '{name}' from {one.module}, which declares no such name")
         if one.names:
-            return {here: known[there] for here, there in one.names.items()}
+            return {here: known.get(there) for here, there in one.names.items()}
         called = one.alias or one.module.rpartition(".")[2]
         return {f"{called}.{name}": declared for name, declared in known.items()}
 
