@@ -9,14 +9,11 @@ use Rattle.judges.proofs.next_free.Goals as goal
 
 pub returns-then-capacity-start : goal.returns-then-capacity-start
 returns-then-capacity-start c =
-    let sized = c in
-    let asked = sized.args in
-    sym (next_free_past (exponent_of asked.size) (seen_from asked.words.now asked.fulls.now asked.start) asked.start (rw (sym sized.capacity.ensures) c.if-capacity-start.true))
+    let asked = c.args in
+    sym (next_free_past (exponent_of asked.size) (seen_from asked.words.now asked.fulls.now asked.start) asked.start (rw (sym c.capacity.ensures) c.if-capacity-start.true))
 
 pub returns : goal.returns
 returns c =
-    let inside = c in
-    let sized = inside in
-    let asked = sized.args in
+    let asked = c.args in
     c.next_free_in.ensures
-    ∙ next_says (exponent_of asked.size) (seen_from asked.words.now asked.fulls.now asked.start) asked.start (rw (sym sized.capacity.ensures) inside.if-capacity-start.false)
+    ∙ next_says (exponent_of asked.size) (seen_from asked.words.now asked.fulls.now asked.start) asked.start (rw (sym c.capacity.ensures) c.if-capacity-start.false)

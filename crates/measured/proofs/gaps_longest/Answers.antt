@@ -10,9 +10,7 @@ loop-left-init c = begins
 
 pub loop-left-preserved : goal.loop-left-preserved
 loop-left-preserved c =
-    let in-loop = c in
-    let at_head = in-loop in
-    step_made _ _ _ in-loop.loop-left-test.true at_head.loop-left.invariant (longest_made _ _ _ _ at_head.holding-tree.ensures c.longest_free.ensures c.numbers_of.ensures)
+    step_made _ _ _ c.loop-left-test.true c.loop-left.invariant (longest_made _ _ _ _ c.holding-tree.ensures c.longest_free.ensures c.numbers_of.ensures)
 
 pub returns : goal.returns
 returns c = none_left _ _ c.loop-left-test.false c.loop-left.invariant

@@ -16,6 +16,5 @@ loop-i-preserved c = free_turn _ _ _ c.free_in_copy.result.map c.loop-i-test.tru
 
 pub returns : goal.returns
 returns c =
-    let out-of-loop = c in
-    let at_head = out-of-loop.loop-i in
-    finished (λ t. t.words) _ _ (none_to_free _ _ at_head.i out-of-loop.loop-i-test.false at_head.invariant) c.left_in.ensures
+    let at_head = c.loop-i in
+    finished (λ t. t.words) _ _ (none_to_free _ _ at_head.i c.loop-i-test.false at_head.invariant) c.left_in.ensures

@@ -14,6 +14,5 @@ loop-left-preserved c = take_turn _ _ _ c.take_in_copy.result.map c.loop-left-te
 
 pub returns : goal.returns
 returns c =
-    let out-of-loop = c in
-    let at_head = out-of-loop.loop-left in
-    finished (λ t. t.words) _ _ (none_to_take _ _ at_head.left out-of-loop.loop-left-test.false at_head.invariant) c.left_in.ensures
+    let at_head = c.loop-left in
+    finished (λ t. t.words) _ _ (none_to_take _ _ at_head.left c.loop-left-test.false at_head.invariant) c.left_in.ensures

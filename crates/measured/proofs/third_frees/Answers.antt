@@ -16,6 +16,5 @@ loop-i-preserved c = free_turn _ _ _ c.free.result.map c.loop-i-test.true c.loop
 
 pub returns : goal.returns
 returns c =
-    let out-of-loop = c in
-    let at_head = out-of-loop.loop-i in
-    finished (λ t. t.words) _ _ (none_to_free _ _ at_head.i out-of-loop.loop-i-test.false at_head.invariant) c.left_in_third.ensures
+    let at_head = c.loop-i in
+    finished (λ t. t.words) _ _ (none_to_free _ _ at_head.i c.loop-i-test.false at_head.invariant) c.left_in_third.ensures

@@ -5,6 +5,5 @@ use Rattle.runner.proofs.run.Goals as goal
 
 pub returns : goal.returns
 returns c =
-    let ran = c in
-    let asked = ran.args in
-    run_map_runs asked.«record».now asked.report.now ran.run_map-ran.result.answer _ _ ran.run_map-ran.ensures
+    let asked = c.args in
+    run_map_runs asked.«record».now asked.report.now c.run_map-ran.result.answer _ _ c.run_map-ran.ensures

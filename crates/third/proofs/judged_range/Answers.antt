@@ -10,11 +10,9 @@ sound-requires c = c.requires
 
 pub returns-then-not-sound : goal.returns-then-not-sound
 unfolding judged
-returns-then-not-sound c = let tested = c in rw (sym tested.sound.ensures ∙ c.if-not-sound.true)
+returns-then-not-sound c = rw (sym c.sound.ensures ∙ c.if-not-sound.true)
 
 pub returns : goal.returns
 unfolding judged
 returns c =
-    let first = c in
-    let tested = first in
-    rw (sym tested.sound.ensures ∙ first.if-not-sound.false) c.range.ensures
+    rw (sym c.sound.ensures ∙ c.if-not-sound.false) c.range.ensures

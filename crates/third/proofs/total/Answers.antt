@@ -27,10 +27,9 @@ loop-i-smaller c = omega arith
 
 pub loop-i-preserved : goal.loop-i-preserved
 loop-i-preserved c =
-    let at_head = c in
-    let counts = at_head.args.counts.now in
-    let inv = at_head.loop-i.invariant in
-    (omega (arith, c.loop-i-test.true), ap₂ ◌+◌ inv.1 c.wide-total.ensures.0 ∙ sum_on counts at_head.loop-i.i, omega (arith, inv.2, c.wide-total.ensures.1))
+    let counts = c.args.counts.now in
+    let inv = c.loop-i.invariant in
+    (omega (arith, c.loop-i-test.true), ap₂ ◌+◌ inv.1 c.wide-total.ensures.0 ∙ sum_on counts c.loop-i.i, omega (arith, inv.2, c.wide-total.ensures.1))
 
 pub returns : goal.returns
-returns c = let at_head = c in at_head.loop-i.invariant.1 ∙ ap (sum_first at_head.args.counts.now) (omega (arith, at_head.loop-i.invariant.0, c.loop-i-test.false))
+returns c = c.loop-i.invariant.1 ∙ ap (sum_first c.args.counts.now) (omega (arith, c.loop-i.invariant.0, c.loop-i-test.false))

@@ -7,11 +7,9 @@ use Rattle.tree.proofs.judged_range.Goals as goal
 
 pub returns-then-not-sound : goal.returns-then-not-sound
 unfolding judged
-returns-then-not-sound c = let tested = c in rw (sym tested.sound.ensures ∙ c.if-not-sound.true)
+returns-then-not-sound c = rw (sym c.sound.ensures ∙ c.if-not-sound.true)
 
 pub returns : goal.returns
 unfolding judged
 returns c =
-    let first = c in
-    let tested = first in
-    rw (sym tested.sound.ensures ∙ first.if-not-sound.false) c.range.ensures
+    rw (sym c.sound.ensures ∙ c.if-not-sound.false) c.range.ensures

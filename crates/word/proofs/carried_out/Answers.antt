@@ -18,8 +18,6 @@ returns-in-Refused c =
 
 pub returns : goal.returns
 returns c =
-    let painting = c in
-    let kept = painting in
-    let asked = kept.args in
-    with_map asked.judged _ _ (ap (λ (words : List ℕ). word_of (get_or words 0 0)) painting.paint.ensures
-    ∙ sym (left_accepted asked.judged kept.in_default.not-Refused (word_of asked.bits) (painted_word asked.bits asked.start asked.n asked.used)))
+    let asked = c.args in
+    with_map asked.judged _ _ (ap (λ (words : List ℕ). word_of (get_or words 0 0)) c.paint.ensures
+    ∙ sym (left_accepted asked.judged c.in_default.not-Refused (word_of asked.bits) (painted_word asked.bits asked.start asked.n asked.used)))

@@ -14,17 +14,15 @@ put_two-requires c = let inside = c.requires in simp length-set (omega (arith, i
 
 pub returns : goal.returns
 returns c =
-    let start = c in
-    let asked = start.args in
-    let inside = start.requires in
+    let asked = c.args in
+    let inside = c.requires in
     c.put_two.ensures
     ∙ ap (λ (held : List ℕ). put_at held (asked.at + 1) (to_bytes 2 asked.size)) (put_one asked.image.now asked.at asked.tag (omega (arith, inside)))
     ∙ put_put asked.image.now asked.at (asked.tag ∷ []) (to_bytes 2 asked.size) (omega (arith, inside))
 
 pub shape_of-image : goal.shape_of-image
 shape_of-image c =
-    let start = c in
-    let asked = start.args in
-    let inside = start.requires in
+    let asked = c.args in
+    let inside = c.requires in
     let long = to_bytes_length 2 asked.size in
     ap length (returns c) ∙ put_length asked.image.now asked.at (asked.tag ∷ to_bytes 2 asked.size) (omega (arith, inside, long))

@@ -12,21 +12,16 @@ use Rattle.jobs.proofs.Jobs.start.Goals as goal
 
 pub returns-then-not-reaped_used : goal.returns-then-not-reaped_used
 returns-then-not-reaped_used c =
-    let tested = c in
-    let asked = tested.args in
+    let asked = c.args in
     let j = asked.self in
     let call = start_call 10 (marks_of j) asked.n asked.a in
-    sym (says_refused jobs_view j call 1 (sym (asked_amiss j.tree j.reaped _ tested.reaped_used.ensures call c.if-not-reaped_used.true)))
+    sym (says_refused jobs_view j call 1 (sym (asked_amiss j.tree j.reaped _ c.reaped_used.ensures call c.if-not-reaped_used.true)))
 
 pub returns : goal.returns
 returns c =
-    let taking = c in
-    let first = taking in
-    let tested = first in
-    let entry = tested in
-    let asked = entry.args in
+    let asked = c.args in
     let j = asked.self in
-    let taken = taking.take-taken.result in
+    let taken = c.take-taken.result in
     ap (λ (said : Said Reply). (said, jobs_of taken.map j.reaped)) c.as_job_answer.ensures
-    ∙ started j.tree j.reaped (are_jobs j entry.well_formed.0).are_reaped asked.n asked.a (shown_kept j.tree j.reaped _ tested.reaped_used.ensures first.if-not-reaped_used.false)
-    (answer_says taken.answer) taken.map taking.take-taken.ensures
+    ∙ started j.tree j.reaped (are_jobs j c.well_formed.0).are_reaped asked.n asked.a (shown_kept j.tree j.reaped _ c.reaped_used.ensures c.if-not-reaped_used.false)
+    (answer_says taken.answer) taken.map c.take-taken.ensures

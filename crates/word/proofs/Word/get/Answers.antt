@@ -9,6 +9,5 @@ use Rattle.word.proofs.Word.get.Goals as goal
 
 pub returns : goal.returns
 returns c =
-    let entry = c in
-    let w = entry.args.self in
-    c.get.ensures ∙ answers w (is_word w entry.well_formed.0) (λ (S : Slots). get_call 6 S entry.args.slot)
+    let w = c.args.self in
+    c.get.ensures ∙ answers w (is_word w c.well_formed.0) (λ (S : Slots). get_call 6 S c.args.slot)
