@@ -4,7 +4,6 @@ use mathlib.Core.Bool.{Bool, true, false, not, ◌&&◌, false≢true}
 use mathlib.Core.List.{List, [], ◌∷◌}
 use Prim.Native.Nat.{ℕ}
 use native.Mathlib.Omega.{arith}
-use borrow.Author.Tests.{not-true, not-false}
 use Rattle.answers.specs.Faults.{finds_both}
 use Rattle.answers.specs.Said.{Said, value, refused, ◌when◌, judged, leaving, on_value, judged_on_value, value≢refused, refused_injective}
 use Rattle.answers.specs.Refusals.{number_of}

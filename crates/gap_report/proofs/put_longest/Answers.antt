@@ -1,6 +1,5 @@
 -- `gap_report::put_longest` meets its contract: a run's line, or that there is none. Assumes nothing.
 use mathlib.Core.Path.{sym, ap, ◌∙◌}
-use borrow.Author.Rules.{rules}
 use Rattle.answers.specs.Said.{Said}
 use Rattle.answers.specs.Answers.{longest_run_says}
 use Rattle.answers.specs.declared.Run.{Run}

@@ -1,7 +1,6 @@
 -- `gap_report::runs` meets its contract: the used runs or the free ones, by the value. Assumes nothing.
 use mathlib.Core.Path.{sym, subst}
 use mathlib.Core.Bool.{Bool}
-use borrow.Author.Rules.{rules}
 use Rattle.gaps.specs.Says.{RunsSays}
 use Rattle.gap_report.proofs.runs.Goals as goal
 

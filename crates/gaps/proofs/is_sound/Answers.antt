@@ -1,6 +1,5 @@
 -- `gaps::is_sound` meets its contract: the tree's count is refused exactly where it is not sound. Assumes nothing.
 use mathlib.Core.Path.{sym}
-use borrow.Author.Rules.{rules}
 use Rattle.tree.specs.Demands.{refused_unsound, counted_sound}
 use Rattle.gaps.proofs.is_sound.Goals as goal
 

@@ -4,13 +4,12 @@ use mathlib.Core.Bool.{false}
 use Prim.Native.Nat.{◌+◌, ◌-◌, ◌<◌}
 use native.Mathlib.Nat.{pos_of_ne-zero}
 use native.Mathlib.Omega.{arith}
-use borrow.Author.Rules.{rules}
 use Rattle.answers.specs.declared.Run.{Run}
 use Rattle.slots.specs.Sets.{Slots}
 use Rattle.slots.specs.Runs.{end_of, next_run, next_later, next_ends}
 use Rattle.slots.specs.Gaps.{having}
 use Rattle.views.specs.Painting.{slot_in}
-use Rattle.gaps.proofs.Turns.{Comparing, comparing_first, comparing_on, comparing_none, comparing_past}
+use Rattle.gaps.proofs.Turns.{comparing_first, comparing_on, comparing_none, comparing_past}
 use Rattle.gaps.proofs.longest.Goals as goal
 use Rattle.gaps.proofs.longest.Lts as lts
 use Rattle.gaps.proofs.longest.Reads as reads

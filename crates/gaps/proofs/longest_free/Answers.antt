@@ -4,8 +4,6 @@ use mathlib.Core.List.{List}
 use mathlib.Core.Bool.{true, false}
 use Prim.Native.Nat.{ℕ}
 use native.Mathlib.Nat.{pos_of_ne-zero}
-use borrow.Author.Rules.{rules}
-use borrow.Author.Tests.{not-true, not-false}
 use Rattle.answers.specs.Said.{value}
 use Rattle.answers.specs.declared.Run.{Run}
 use Rattle.slots.specs.View.{found_sound, found_unsound}

@@ -11,7 +11,7 @@ use Rattle.slots.specs.Sets.{Slots}
 use Rattle.slots.specs.Runs.{end_of, next_run, next_later, next_ends}
 use Rattle.slots.specs.Gaps.{having}
 use Rattle.views.specs.Painting.{slot_in}
-use Rattle.gaps.proofs.Turns.{Listing, listing_first, listing_room, listing_long, listing_on, listing_none, listing_past}
+use Rattle.gaps.proofs.Turns.{listing_first, listing_room, listing_long, listing_on, listing_none, listing_past}
 use Rattle.gaps.proofs.put_runs.Goals as goal
 use Rattle.gaps.proofs.put_runs.Lts as lts
 use Rattle.gaps.proofs.put_runs.Reads as reads

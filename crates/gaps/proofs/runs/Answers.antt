@@ -4,8 +4,6 @@ use mathlib.Core.Bool.{true}
 use mathlib.Core.List.{List}
 use Prim.Native.Nat.{ℕ}
 use lib.ListN.{length}
-use borrow.Author.Rules.{rules}
-use borrow.Author.Tests.{not-true, not-false}
 use Rattle.answers.specs.Said.{value}
 use Rattle.bits.specs.Buffers.{put_at}
 use Rattle.slots.specs.Gaps.{runs_of, flat}

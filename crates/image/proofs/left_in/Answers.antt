@@ -6,7 +6,6 @@ use mir.ValLaws.{to_z_pos, to_z-of_z}
 use Rattle.image.specs.Says.{told}
 use Rattle.image.specs.Inner.{Short}
 use Rattle.image.proofs.Outcomes.{left_refused, left_at, left_done}
-use borrow.Author.Rules.{rules}
 use Rattle.image.proofs.left_in.Goals as goal
 
 pub overflow_cast-result : goal.overflow_cast-result

@@ -1,7 +1,6 @@
 -- `image::read` meets its contract: 16, then 1, and else the map. Assumes nothing.
 use mathlib.Core.Path.{sym, ap, ◌∙◌}
 use Prim.Native.Nat.{ℕ}
-use borrow.Author.Tests.{not-true}
 use Rattle.answers.specs.Said.{value, refused}
 use Rattle.answers.specs.Answers.{ok}
 use Rattle.slots.specs.Sets.{none}
@@ -9,7 +8,6 @@ use Rattle.tree.specs.Layout.{of_slots}
 use Rattle.image.specs.Image.{held_in}
 use Rattle.tree.specs.Demands.{refused_unsound, counted_sound}
 use Rattle.image.proofs.Outcomes.{counted_of, read_none, read_unsound, read_sound, an_image, long}
-use borrow.Author.Rules.{rules}
 use Rattle.image.proofs.read.Goals as goal
 
 pub returns-then-not-is_image : goal.returns-then-not-is_image

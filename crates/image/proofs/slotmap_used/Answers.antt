@@ -2,7 +2,6 @@
 use mathlib.Core.Path.{◌∙◌}
 use mir.Syntax.{w32}
 use mir.ValLaws.{to_z_pos, to_z-of_z}
-use borrow.Author.Rules.{rules}
 use Rattle.image.specs.Says.{used}
 use Rattle.image.proofs.Outcomes.{told_none, long, told_count, count_fits}
 use Rattle.image.proofs.slotmap_used.Goals as goal

@@ -5,7 +5,6 @@ use Rattle.answers.specs.Said.{value, refused}
 use Rattle.answers.specs.Answers.{ok}
 use Rattle.tree.specs.Demands.{refused_unsound, counted_sound}
 use Rattle.image.proofs.Outcomes.{write_short, write_unsound, write_sound}
-use borrow.Author.Rules.{rules}
 use Rattle.image.proofs.write.Goals as goal
 
 pub returns-then-image-ne-LENGTH : goal.returns-then-image-ne-LENGTH

@@ -1,6 +1,5 @@
 -- `jobs::judged_range` meets its contract: 1 where a reaped slot is not used or the tree is not sound, and else what the judge of ranges says. Assumes nothing.
 use mathlib.Core.Path.{◌∙◌}
-use borrow.Author.Rules.{rules}
 use Rattle.slots.specs.Calls.{says}
 use Rattle.jobs.specs.Inner.{range_call}
 use Rattle.jobs.proofs.Outcomes.{shown_kept, asked_amiss, tree_refused, tree_passed}

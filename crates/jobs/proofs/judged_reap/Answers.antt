@@ -2,7 +2,6 @@
 use mathlib.Core.Path.{sym, ap, ◌∙◌}
 use mathlib.Core.List.{List}
 use Prim.Native.Nat.{ℕ}
-use borrow.Author.Rules.{rules}
 use Rattle.answers.specs.Said.{judged_found, judged_passed}
 use Rattle.answers.specs.Answers.{ok}
 use Rattle.slots.specs.Sets.{all_used}

@@ -1,7 +1,6 @@
 -- `jobs::judged_record` meets its contract: the checks that come first, and then that each named slot is reaped. Assumes nothing.
 use mathlib.Core.Path.{sym, ap, ◌∙◌}
 use mathlib.Core.Bool.{not}
-use borrow.Author.Rules.{rules}
 use Rattle.answers.specs.Said.{judged_found, judged_passed}
 use Rattle.answers.specs.Answers.{ok}
 use Rattle.jobs.proofs.Outcomes.{record_first, record_by}

@@ -1,6 +1,5 @@
 -- `judges::change` meets its contract: the refusals of the range, and then that of the slots. Assumes nothing.
 use mathlib.Core.Path.{sym, ◌∙◌}
-use borrow.Author.Rules.{rules}
 use Rattle.views.specs.Painting.{slot_in}
 use Rattle.judges.specs.Sizes.{exponent_of}
 use Rattle.judges.proofs.Changing.{range_refuses, slots_refuse, slots_pass}

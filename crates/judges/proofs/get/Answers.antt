@@ -1,6 +1,5 @@
 -- `judges::get` meets its contract: 4 past the end, and else the slot. Assumes nothing.
 use mathlib.Core.Path.{sym, ap, ◌∙◌}
-use borrow.Author.Rules.{rules}
 use Rattle.answers.specs.Said.{value}
 use Rattle.slots.proofs.Ways.{get_past, get_inside}
 use Rattle.views.specs.Painting.{slot_in}

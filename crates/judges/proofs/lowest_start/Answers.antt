@@ -1,16 +1,14 @@
 -- `judges::lowest_start` meets its contract, at any size. The loop's invariant: no start below the try fits, and the try is a multiple of 2 ^ a.
 use mathlib.Core.Path.{◌≡◌, sym, ap, ◌∙◌}
-use mathlib.Core.Logic.{⊎_elim}
 use Prim.Native.Nat.{ℕ, ◌+◌, ◌-◌, ◌^◌, ◌≤◌}
 use native.Mathlib.Omega.{arith}
-use borrow.Author.Rules.{rules}
 use Rattle.answers.specs.Answers.{next_free_says}
 use Rattle.views.specs.Painting.{slot_in}
 use Rattle.views.specs.Full.{filled, seen_from}
 use Rattle.views.proofs.Full.{seen_used}
 use Rattle.slots.specs.Sets.{Slots, AllFree}
 use Rattle.slots.specs.Search.{searched_past, searched_full, searched_found}
-use Rattle.slots.specs.Tries.{Ahead, Trying, trying_first, next_found, next_none, run_free, run_not_free}
+use Rattle.slots.specs.Tries.{Ahead, trying_first, next_found, next_none, run_free, run_not_free}
 use Rattle.slots.proofs.Tries.{says_none, says_found, try_later, try_on}
 use Rattle.judges.specs.Sizes.{exponent_of, exponent_most, capacity_most}
 use Rattle.judges.proofs.lowest_start.Goals as goal
@@ -98,7 +96,7 @@ not_free_at : (c : Joined-free-start) → free_at c ≡ (test_of c).loop-start.s
 not_free_at c =
     let at_head = (test_of c) in
     elim c.if-free-start.branch [
-      then-free-start+else-fits w ↦ λ _. run_not_free (set_at at_head.before) at_head.loop-start.start at_head.args.n _ w.fits.ensures w.if-fits.false
+      | then-free-start+else-fits w ↦ λ _. run_not_free (set_at at_head.before) at_head.loop-start.start at_head.args.n _ w.fits.ensures w.if-fits.false
       | else-free-start w ↦ λ same. absurd (w.if-free-start.false same)
     ]
 

@@ -1,6 +1,5 @@
 -- `judges::next_free` meets its contract: 4 past the end, and else what the search says. Assumes nothing.
 use mathlib.Core.Path.{sym, ◌∙◌}
-use borrow.Author.Rules.{rules}
 use Rattle.slots.proofs.Ways.{next_free_past}
 use Rattle.slots.specs.Tries.{next_says}
 use Rattle.views.specs.Full.{seen_from}

@@ -1,7 +1,6 @@
 -- `judges::next_free_in` meets its contract: the first free slot of the row, where it lies within the size. Assumes nothing.
 use mathlib.Core.Path.{sym, ap, ◌∙◌}
 use native.Mathlib.Omega.{arith}
-use borrow.Author.Rules.{rules}
 use Rattle.answers.specs.Said.{value}
 use Rattle.views.specs.Full.{seen_from}
 use Rattle.judges.specs.Sizes.{exponent_of, capacity_most}

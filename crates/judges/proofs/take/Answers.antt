@@ -1,7 +1,6 @@
 -- `judges::take` meets its contract: the refusals of its numbers, and else what the search says. Assumes nothing.
 use mathlib.Core.Path.{sym, ap, ◌∙◌}
 use native.Mathlib.Omega.{arith}
-use borrow.Author.Rules.{rules}
 use Rattle.answers.specs.Said.{on_value}
 use Rattle.answers.specs.Answers.{at}
 use Rattle.slots.proofs.Ways.{take_empty, take_too_aligned, take_too_many}

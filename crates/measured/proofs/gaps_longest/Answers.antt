@@ -1,8 +1,5 @@
 -- `measured::gaps_longest` meets its contract: the questions that are left end where all of them do. Assumes nothing.
-use borrow.Author.Rules.{rules}
-use Rattle.tree.specs.Layout.{holding}
-use Rattle.measured.specs.Gaps.{longest_in}
-use Rattle.measured.proofs.Steps.{Ends, begins, step_made, none_left, longest_made}
+use Rattle.measured.proofs.Steps.{begins, step_made, none_left, longest_made}
 use Rattle.measured.proofs.gaps_longest.Goals as goal
 
 pub loop-left-init : goal.loop-left-init

@@ -3,9 +3,7 @@ use mathlib.Core.Path.{◌≡◌, refl, ◌∙◌}
 use mathlib.Core.Bool.{true}
 use lib.ListN.{length}
 use borrow.Author.Rules.{rules}
-use Rattle.tree.specs.Layout.{holding}
-use Rattle.measured.specs.Gaps.{listing}
-use Rattle.measured.proofs.Steps.{Ends, begins, step_made, none_left, listing_made}
+use Rattle.measured.proofs.Steps.{begins, step_made, none_left, listing_made}
 use Rattle.measured.proofs.gaps_used.Goals as goal
 use Rattle.measured.proofs.gaps_used.Lts as lts
 use Rattle.measured.proofs.gaps_used.Reads as reads
@@ -23,9 +21,9 @@ length_made c = search rules
 
 pub loop-left-preserved : goal.loop-left-preserved
 loop-left-preserved c = (
-      step_made _ _ _ c.loop-left-test.true c.loop-left.invariant.0 (listing_made _ _ _ _ c.loop-left.count _ _ _ c.holding-tree.ensures c.used_runs.ensures c.count_of-count.ensures),
-      length_made c.before ∙ c.loop-left.invariant.1,
-    )
+  step_made _ _ _ c.loop-left-test.true c.loop-left.invariant.0 (listing_made _ _ _ _ c.loop-left.count _ _ _ c.holding-tree.ensures c.used_runs.ensures c.count_of-count.ensures),
+  length_made c.before ∙ c.loop-left.invariant.1,
+)
 
 pub shape_of-list : goal.shape_of-list
 shape_of-list c = c.loop-left.invariant.1

@@ -2,11 +2,7 @@
 use mathlib.Core.Path.{ap}
 use mathlib.Core.List.{[], ◌∷◌}
 use Prim.Native.Nat.{◌-◌}
-use lib.ListN.{length, get_or, drop}
-use borrow.Author.Rules.{rules}
-use Rattle.word.specs.Layout.{word_of, word_view}
-use Rattle.measured.specs.Series.{frees_of}
-use Rattle.measured.proofs.Turns.{Ends, begins, free_turn, none_to_free, finished}
+use Rattle.measured.proofs.Turns.{begins, free_turn, none_to_free, finished}
 use Rattle.measured.proofs.word_frees.Goals as goal
 
 pub loop-i-init : goal.loop-i-init

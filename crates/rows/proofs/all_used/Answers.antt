@@ -1,13 +1,11 @@
 -- `rows::all_used` meets its contract: before each word, the run's slots in the words before it are used. Assumes nothing.
 use mathlib.Core.Path.{sym}
 use mathlib.Core.Bool.{true}
-use Prim.Native.Nat.{◌-◌, ◌*◌, ◌/◌, ◌≤◌, ◌<◌}
+use Prim.Native.Nat.{◌-◌, ◌*◌, ◌<◌}
 use native.Mathlib.Nat.{pos_of_ne-zero}
 use native.Mathlib.Omega.{arith}
-use borrow.Author.Rules.{rules}
-use borrow.Author.Tests.{not-true, not-false}
 use Rattle.views.specs.Painting.{slots_in, slot_in, slots_most, slot_past, word_there}
-use Rattle.rows.proofs.Reasons.{HasTo, has_none, has_on, has_not, has_all, run_has_not}
+use Rattle.rows.proofs.Reasons.{has_none, has_on, has_not, has_all, run_has_not}
 use Rattle.rows.proofs.all_used.Goals as goal
 use Rattle.rows.proofs.all_used.Lts as lts
 use Rattle.rows.proofs.all_used.Reads as reads

@@ -1,21 +1,18 @@
 -- `rows::first_free` meets its contract: each slot passed is used, or lies in a word that is marked (`Searching`), and each other word is asked once. Assumes
 -- nothing.
 use mathlib.Core.Path.{◌≡◌, refl, sym, ap, subst, ◌∙◌}
-use mathlib.Core.Logic.{⊎_elim}
 use mathlib.Core.Bool.{true}
 use mathlib.Core.List.{List}
 use Prim.Native.Nat.{ℕ, ◌+◌, ◌-◌, ◌*◌, ◌/◌, ◌<◌, ◌≤◌}
 use native.Mathlib.Nat.{le_refl, le_of_lt, min-eq_left, min-eq_right}
 use native.Mathlib.Omega.{arith}
 use lib.ListN.{get_or}
-use borrow.Author.Rules.{rules}
-use borrow.Author.Tests.{not-true, not-false}
 use Rattle.slots.specs.Sets.{Slots}
 use Rattle.slots.specs.Lowest.{free_from}
 use Rattle.views.specs.Painting.{slots_in, slot_in, slots_most, word_there}
 use Rattle.views.specs.Full.{marked, filled, filled_slots, filled_open, filled_marked, seen_from}
 use Rattle.views.proofs.Full.{filled_used}
-use Rattle.rows.proofs.Reasons.{Passed, passed_none, passed_on, passed_found, passed_all, far_from, open_later, open_most, Searching, searching_on, seen_filled, seen_here, used_inside, word_full, word_has, word_from, word_stops}
+use Rattle.rows.proofs.Reasons.{Passed, passed_none, passed_on, passed_found, passed_all, far_from, open_later, open_most, searching_on, seen_filled, seen_here, used_inside, word_full, word_has, word_from, word_stops}
 use Rattle.rows.proofs.first_free.Goals as goal
 use Rattle.rows.proofs.first_free.Goals.{then-place-lt64+else-not-marked, else-place-lt64}
 use Rattle.rows.proofs.first_free.Lts as lts
@@ -146,7 +143,7 @@ loop-start-preserved c =
     let none : (p : ℕ) → start ≤ p → p < (i + 1) * 64 → slot_in (seen_at h) p ≡ true =
     λ p l b. let there : p < slots_in words = omega (arith, within test) in
     elim c.if-place-lt64.branch [
-      then-place-lt64+else-not-marked w ↦ let same : p / 64 ≡ i = omega arith in filled_marked words fulls p there (ap (marked fulls) same ∙ sym w.marked.ensures ∙ w.if-not-marked.false)
+      | then-place-lt64+else-not-marked w ↦ let same : p / 64 ≡ i = omega arith in filled_marked words fulls p there (ap (marked fulls) same ∙ sym w.marked.ensures ∙ w.if-not-marked.false)
       | else-place-lt64 w ↦ filled_used words fulls p there (word_full true words start (get_or words i 0) c.first_free-place.result (inside test) (λ q b. refl) c.first_free-place.ensures w.if-place-lt64.false p l b)
     ] in (
       omega (arith, c.next_open-start.ensures, open_most fulls (i + 1) (near_at test)),

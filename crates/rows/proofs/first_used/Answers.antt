@@ -6,14 +6,13 @@ use Prim.Native.Nat.{ℕ, ◌+◌, ◌-◌, ◌*◌, ◌/◌, ◌^◌, ◌<◌, 
 use native.Mathlib.Nat.{le_refl, le_of_lt, sub-eq-zero_of_le}
 use native.Mathlib.Omega.{arith}
 use lib.ListN.{get_or}
-use borrow.Author.Rules.{rules}
 use Rattle.bits.specs.Range.{least}
 use Rattle.bits.specs.Digits.{digit}
 use Rattle.bits.proofs.Digits.{complement_digit}
 use Rattle.slots.specs.Gaps.{having}
 use Rattle.views.specs.Painting.{slots_in, slot_in, slots_most, slot_past, word_there, end_in}
 use Rattle.views.specs.Full.{marked, filled, filled_slots, filled_open, filled_marked}
-use Rattle.rows.proofs.Reasons.{PassedFree, free_none, free_on, used_found, used_late, word_full, word_has, word_from, word_stops}
+use Rattle.rows.proofs.Reasons.{free_none, free_on, used_found, used_late, word_full, word_has, word_from, word_stops}
 use Rattle.rows.proofs.first_used.Goals as goal
 use Rattle.rows.proofs.first_used.Lts as lts
 use Rattle.rows.proofs.first_used.Reads as reads

@@ -2,7 +2,6 @@
 use mathlib.Core.Path.{sym}
 use Prim.Native.Nat.{◌/◌, ◌<◌}
 use native.Mathlib.Omega.{arith}
-use borrow.Author.Rules.{rules}
 use Rattle.views.specs.Painting.{slots_in, slot_past, word_there}
 use Rattle.rows.proofs.Reasons.{read_slot}
 use Rattle.rows.proofs.get.Goals as goal

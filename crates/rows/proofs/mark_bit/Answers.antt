@@ -3,7 +3,6 @@ use mathlib.Core.Path.{ap, ◌∙◌}
 use mathlib.Core.Bool.{Bool}
 use Prim.Native.Nat.{◌*◌, ◌%◌, ◌^◌}
 use mir.Val.{bool_byte}
-use borrow.Author.Rules.{rules}
 use Rattle.rows.specs.Rows.{mark_test}
 use Rattle.rows.proofs.Reasons.{shifted_bit}
 use Rattle.rows.proofs.mark_bit.Goals as goal

@@ -1,5 +1,4 @@
 -- `runner::run` meets its contract: what the run with the map says and writes. Assumes nothing.
-use borrow.Author.Rules.{rules}
 use Rattle.report.specs.Demands.{run_map_runs}
 use Rattle.runner.proofs.run.Goals as goal
 

@@ -1,7 +1,6 @@
 -- `third::carried_out` meets its contract: on a refusal the very words and fields, and else the painted ones. Assumes nothing.
 use mathlib.Core.Path.{sym, ap, ◌∙◌}
 use lib.ListN.{length}
-use borrow.Author.Rules.{rules}
 use Rattle.answers.specs.Answers.{left_by}
 use Rattle.answers.specs.declared.Answer.{Answer}
 use Rattle.views.specs.Painting.{painted_long}

@@ -1,6 +1,5 @@
 -- `third::judged_change` meets its contract: 1 where the map is not sound, and else what the judge of claim and free says. Assumes nothing.
 use mathlib.Core.Path.{sym, ◌∙◌}
-use borrow.Author.Rules.{rules}
 use Rattle.slots.proofs.Outcomes.{shown_unsound, shown_sound}
 use Rattle.third.specs.Layout.{third_view, third_of}
 use Rattle.third.proofs.judged_change.Goals as goal

@@ -1,7 +1,5 @@
 -- `third::judged_range` meets its contract: 1 where the map is not sound, and else what the judge of a range says. Assumes nothing.
 use mathlib.Core.Path.{sym, ◌∙◌}
-use borrow.Author.Rules.{rules}
-use borrow.Author.Tests.{not-true, not-false}
 use Rattle.answers.specs.Said.{judged}
 use Rattle.third.proofs.judged_range.Goals as goal
 

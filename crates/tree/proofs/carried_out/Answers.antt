@@ -2,7 +2,6 @@
 use mathlib.Core.Path.{sym, ap}
 use mathlib.Core.List.{List}
 use Prim.Native.Nat.{ℕ}
-use borrow.Author.Rules.{rules}
 use Rattle.answers.specs.Answers.{left_by}
 use Rattle.answers.specs.declared.Answer.{Answer}
 use Rattle.views.specs.Count.{moved_count}

@@ -1,6 +1,5 @@
 -- `tree::judged_change` meets its contract: 1 where the tree is not sound, and else what the judge of claim and free says. Assumes nothing.
 use mathlib.Core.Path.{sym, ◌∙◌}
-use borrow.Author.Rules.{rules}
 use Rattle.slots.proofs.Outcomes.{shown_unsound, shown_sound}
 use Rattle.tree.specs.Layout.{tree_view, tree_of}
 use Rattle.tree.proofs.judged_change.Goals as goal

@@ -1,7 +1,5 @@
 -- `tree::judged_range` meets its contract: 1 where the tree is not sound, and else what the judge of a range says. Assumes nothing.
 use mathlib.Core.Path.{sym, ◌∙◌}
-use borrow.Author.Rules.{rules}
-use borrow.Author.Tests.{not-true, not-false}
 use Rattle.answers.specs.Said.{judged}
 use Rattle.tree.proofs.judged_range.Goals as goal
 

@@ -2,8 +2,6 @@
 use mathlib.Core.Path.{sym, ap, ◌∙◌}
 use mathlib.Core.List.{List}
 use Prim.Native.Nat.{ℕ}
-use borrow.Author.Rules.{rules}
-use borrow.Author.Tests.{not-false}
 use Rattle.answers.specs.Said.{on_value}
 use Rattle.slots.specs.Calls.{says, take_call}
 use Rattle.slots.proofs.Outcomes.{shown_unsound, shown_sound}

@@ -1,6 +1,5 @@
 -- `tree::set_out` meets its contract: on a refusal the very words and fields, and else the painted ones, counted anew. Assumes nothing.
 use mathlib.Core.Path.{sym, ap}
-use borrow.Author.Rules.{rules}
 use Rattle.answers.specs.Answers.{left_by}
 use Rattle.answers.specs.declared.Answer.{Answer}
 use Rattle.views.specs.Count.{count_of}

@@ -1,6 +1,5 @@
 -- `tree::sound` meets its contract: a tree is sound exactly if each field is that of its words. Assumes nothing.
 use mathlib.Core.Path.{sym, ap, ◌∙◌}
-use borrow.Author.Rules.{rules}
 use Rattle.tree.specs.declared.Stored.{Stored}
 use Rattle.tree.specs.Layout.{tree_of}
 use Rattle.tree.proofs.Values.{both_fit}

@@ -3,7 +3,6 @@ use mathlib.Core.Path.{sym, ap, ◌∙◌}
 use mathlib.Core.List.{List}
 use Prim.Native.Nat.{ℕ}
 use lib.ListN.{get_or}
-use borrow.Author.Rules.{rules}
 use Rattle.answers.proofs.Judging.{left_accepted}
 use Rattle.answers.specs.declared.Answer.{Answer}
 use Rattle.word.specs.Layout.{word_of}

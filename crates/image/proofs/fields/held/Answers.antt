@@ -2,7 +2,6 @@
 use mathlib.Core.Path.{ap, ◌∙◌}
 use Rattle.tree.specs.Layout.{stored_of, tree_of, holding}
 use Rattle.image.specs.Image.{held_in}
-use borrow.Author.Rules.{rules}
 use Rattle.image.proofs.fields.held.Goals as goal
 
 pub returns : goal.returns

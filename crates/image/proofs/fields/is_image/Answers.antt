@@ -5,9 +5,8 @@ use mathlib.Core.List.{List}
 use Prim.Native.Nat.{ℕ}
 use lib.Dec.{eqb}
 use lib.ListN.{length}
-use borrow.Author.Tests.{eq-eqb, ne_eqb, not-true, not-false}
+use borrow.Author.Tests.{eq-eqb, ne_eqb}
 use Rattle.image.specs.Image.{is_image, headed}
-use borrow.Author.Rules.{rules}
 use Rattle.image.proofs.fields.is_image.Goals as goal
 
 -- the test by its parts

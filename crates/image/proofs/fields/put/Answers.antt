@@ -1,8 +1,7 @@
 -- `image::fields::put` meets its contract: both headers and what stands behind them. Assumes nothing.
-use mathlib.Core.Path.{sym, ap, ◌∙◌}
+use mathlib.Core.Path.{ap, ◌∙◌}
 use mathlib.Core.List.{List}
 use Prim.Native.Nat.{ℕ}
-use lib.ListN.{length}
 use Rattle.bits.specs.Bytes.{to_bytes, bytes_of}
 use Rattle.bits.specs.Buffers.{put_at}
 use Rattle.image.proofs.Turns.{put_in_turn}

@@ -6,7 +6,6 @@ use Prim.Native.Nat.{ℕ, ◌+◌}
 use lib.ListN.{length, length-set}
 use Rattle.bits.specs.Bytes.{to_bytes, to_bytes_length}
 use Rattle.bits.specs.Buffers.{put_at, put_length, put_one, put_put}
-use borrow.Author.Rules.{rules}
 use Rattle.image.proofs.fields.put_header.Goals as goal
 
 pub put_two-requires : goal.put_two-requires

@@ -1,13 +1,12 @@
 -- `image::fields::put_words` meets its contract: a word each turn. Assumes nothing.
 use mathlib.Core.Path.{◌≡◌, sym, ap, ◌∙◌}
 use mathlib.Core.List.{List}
-use Prim.Native.Nat.{ℕ, ◌+◌, ◌-◌, ◌*◌, ◌≤◌}
+use Prim.Native.Nat.{ℕ, ◌+◌, ◌-◌, ◌*◌}
 use native.Mathlib.Omega.{arith}
-use lib.ListN.{length, get_or, take}
-use Rattle.bits.specs.Bytes.{to_bytes, bytes_of}
+use lib.ListN.{length, get_or}
+use Rattle.bits.specs.Bytes.{to_bytes}
 use Rattle.bits.specs.Buffers.{put_at}
 use Rattle.image.proofs.Turns.{written_long, word_written, none_written, all_written}
-use borrow.Author.Rules.{rules}
 use Rattle.image.proofs.fields.put_words.Goals as goal
 use Rattle.image.proofs.fields.put_words.Lts as lts
 use Rattle.image.proofs.fields.put_words.Reads as reads

@@ -1,10 +1,8 @@
 -- `image::fields::words_in` meets its contract: a word each turn. Assumes nothing.
-use mathlib.Core.Path.{◌≡◌, refl}
-use Prim.Native.Nat.{◌-◌, ◌≤◌}
+use mathlib.Core.Path.{refl}
+use Prim.Native.Nat.{◌-◌}
 use native.Mathlib.Omega.{arith}
-use lib.ListN.{length}
-use Rattle.image.specs.Image.{words_in}
-use lib.ListN.{take, length-set}
+use lib.ListN.{length-set}
 use Rattle.image.proofs.Turns.{word_read, all_read}
 use borrow.Author.Rules.{rules}
 use Rattle.image.proofs.fields.words_in.Goals as goal

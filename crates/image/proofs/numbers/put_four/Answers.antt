@@ -5,7 +5,6 @@ use Prim.Native.Nat.{ℕ, ◌+◌, ◌/◌}
 use native.Mathlib.Omega.{arith}
 use Rattle.bits.specs.Bytes.{to_bytes}
 use Rattle.bits.specs.Buffers.{put_at, put_parts}
-use borrow.Author.Rules.{rules}
 use Rattle.image.proofs.numbers.put_four.Goals as goal
 
 pub returns : goal.returns

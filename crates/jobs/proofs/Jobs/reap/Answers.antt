@@ -1,6 +1,5 @@
 -- `jobs::Jobs::reap` meets its contract: what was judged, carried out in the words beside the tree. Assumes nothing.
 use mathlib.Core.Path.{sym, ◌∙◌}
-use borrow.Author.Rules.{rules}
 use Rattle.jobs.specs.Layout.{jobs_of}
 use Rattle.jobs.proofs.Values.{are_jobs}
 use Rattle.jobs.proofs.Outcomes.{not_refused, handed_back, reaps}

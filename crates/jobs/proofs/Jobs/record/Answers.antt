@@ -1,6 +1,5 @@
 -- `jobs::Jobs::record` meets its contract: what was judged, carried out in the tree and in the words beside it. Assumes nothing.
 use mathlib.Core.Path.{sym, ◌∙◌}
-use borrow.Author.Rules.{rules}
 use Rattle.answers.specs.Answers.{answer_says}
 use Rattle.jobs.specs.Layout.{jobs_of}
 use Rattle.jobs.proofs.Values.{are_jobs}

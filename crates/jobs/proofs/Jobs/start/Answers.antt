@@ -1,6 +1,5 @@
 -- `jobs::Jobs::start` meets its contract: 1 where a reaped slot is not used, and else the tree's take. Assumes nothing.
 use mathlib.Core.Path.{sym, ap, ◌∙◌}
-use borrow.Author.Rules.{rules}
 use Rattle.answers.specs.Said.{Said}
 use Rattle.answers.specs.Answers.{Reply, answer_says}
 use Rattle.slots.specs.Jobs.{start_call}

@@ -1,6 +1,5 @@
 -- `jobs::Jobs::state` meets its contract: 1 where a reaped slot is not used, and else the slot's two marks. Assumes nothing.
 use mathlib.Core.Path.{sym, ap, ◌∙◌}
-use borrow.Author.Rules.{rules}
 use Rattle.answers.specs.Said.{value, on_value}
 use Rattle.answers.specs.Answers.{truth_says}
 use mathlib.Core.Bool.{Bool}

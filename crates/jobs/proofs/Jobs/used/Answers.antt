@@ -1,6 +1,5 @@
 -- `jobs::Jobs::used` meets its contract: 1 where a reaped slot is not used, and else what the tree says. Assumes nothing.
 use mathlib.Core.Path.{◌∙◌}
-use borrow.Author.Rules.{rules}
 use Rattle.slots.specs.Calls.{used_call}
 use Rattle.jobs.specs.Layout.{used_of}
 use Rattle.jobs.proofs.Outcomes.{asked_amiss, asked_below}

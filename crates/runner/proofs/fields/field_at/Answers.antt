@@ -3,11 +3,9 @@ use mathlib.Core.Path.{◌≡◌, sym, ap, ◌∙◌}
 use Prim.Native.Nat.{ℕ, ◌+◌, ◌-◌}
 use native.Mathlib.Omega.{arith}
 use lib.ListN.{take, drop}
-use borrow.Author.Tests.{not-true, not-false}
 use Rattle.report.specs.Fields.{field_of}
 use Rattle.runner.specs.Inner.{kind_says}
 use Rattle.runner.proofs.Pieces.{piece_without_header, piece_bad, piece_without_body, piece_whole}
-use borrow.Author.Rules.{rules}
 use Rattle.runner.proofs.fields.field_at.Goals as goal
 
 pub returns-then-end-at-lt3 : goal.returns-then-end-at-lt3

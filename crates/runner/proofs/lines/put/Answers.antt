@@ -1,7 +1,6 @@
 -- `runner::lines::put` meets its contract: there is room. Assumes nothing.
 use mathlib.Core.Path.{ap, ◌∙◌}
 use native.Mathlib.Omega.{arith}
-use borrow.Author.Rules.{rules}
 use Rattle.texts.specs.Texts.{put_fits}
 use Rattle.runner.proofs.lines.put.Goals as goal
 

@@ -6,7 +6,6 @@ use Rattle.answers.specs.Said.{refused}
 use Rattle.report.specs.Report.{said, written}
 use Rattle.runner.specs.Inner.{answer_line}
 use Rattle.runner.proofs.Texts.{room_for, put_as}
-use borrow.Author.Rules.{rules}
 use Rattle.runner.proofs.lines.put_answer.Goals as goal
 
 pub put_number-requires : goal.put_number-requires

@@ -4,7 +4,6 @@ use Rattle.runner.specs.declared.lines.Line.{Line as CodeLine}
 use Rattle.report.specs.Report.{written}
 use Rattle.runner.specs.Inner.{line_says}
 use Rattle.runner.proofs.Texts.{room_for, put_as}
-use borrow.Author.Rules.{rules}
 use Rattle.runner.proofs.lines.put_line.Goals as goal
 
 pub put_answer-requires : goal.put_answer-requires

@@ -4,7 +4,6 @@ use native.Mathlib.Omega.{arith}
 use lib.ListN.{length}
 use Rattle.report.specs.Report.{numbered}
 use Rattle.runner.proofs.Texts.{word_fits, end_fits, all_put, all_length}
-use borrow.Author.Rules.{rules}
 use Rattle.runner.proofs.lines.put_number.Goals as goal
 
 pub put-after_word-requires : goal.put-after_word-requires

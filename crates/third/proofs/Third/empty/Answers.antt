@@ -1,6 +1,5 @@
 -- `third::Third::empty` meets its contract: 1 where the map is not sound, and else whether the summary over the trees is 0. Assumes nothing.
 use mathlib.Core.Path.{sym, ap, ◌∙◌}
-use borrow.Author.Tests.{not-false}
 use Rattle.answers.specs.Said.{value}
 use Rattle.slots.proofs.Ways.{empty_says}
 use Rattle.slots.proofs.Outcomes.{shown_unsound, shown_sound}

@@ -1,6 +1,5 @@
 -- `third::Third::get` meets its contract: 1 where the map is not sound, and else what the judge says. Assumes nothing.
 use mathlib.Core.Path.{sym, ◌∙◌}
-use borrow.Author.Rules.{rules}
 use Rattle.slots.proofs.Outcomes.{shown_unsound, shown_sound}
 use Rattle.third.specs.Layout.{third_view}
 use Rattle.third.proofs.Values.{is_third}

@@ -1,7 +1,6 @@
 -- `third::Third::take` meets its contract: what was judged, carried out. Assumes nothing.
 use mathlib.Core.Path.{sym}
 use mathlib.Core.Bool.{true}
-use borrow.Author.Rules.{rules}
 use Rattle.answers.proofs.Judging.{told_at, told_refused}
 use Rattle.answers.specs.Refusals.{number_of}
 use Rattle.answers.specs.declared.Answer.TheVariants.{At}

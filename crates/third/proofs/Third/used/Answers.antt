@@ -1,7 +1,5 @@
 -- `third::Third::used` meets its contract: 1 where the map is not sound, and else the sum of the stored counts. Assumes nothing.
 use mathlib.Core.Path.{sym, ap, ◌∙◌}
-use borrow.Author.Rules.{rules}
-use borrow.Author.Tests.{not-false}
 use Rattle.answers.specs.Said.{value}
 use Rattle.slots.specs.Promises.{used_promise}
 use Rattle.slots.proofs.Outcomes.{shown_unsound, shown_sound}

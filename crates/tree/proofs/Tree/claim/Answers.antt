@@ -1,7 +1,6 @@
 -- `tree::Tree::claim` meets its contract: what was judged, carried out. Assumes nothing.
 use mathlib.Core.Path.{◌∙◌}
 use mathlib.Core.Bool.{true}
-use borrow.Author.Rules.{rules}
 use Rattle.answers.specs.Answers.{answer_says}
 use Rattle.slots.specs.Calls.{claim_call}
 use Rattle.slots.specs.Promises.{claim_after}

@@ -1,7 +1,5 @@
 -- `tree::Tree::empty` meets its contract: 1 where the tree is not sound, and else whether the summary is 0. Assumes nothing.
 use mathlib.Core.Path.{◌≡◌, sym, ap, ◌∙◌}
-use borrow.Author.Rules.{rules}
-use borrow.Author.Tests.{not-false}
 use Rattle.answers.specs.Said.{value}
 use Rattle.slots.proofs.Ways.{empty_says}
 use Rattle.slots.proofs.Outcomes.{shown_unsound, shown_sound}

@@ -1,7 +1,6 @@
 -- `tree::Tree::free` meets its contract: what was judged, carried out. Assumes nothing.
 use mathlib.Core.Path.{◌∙◌}
 use mathlib.Core.Bool.{false}
-use borrow.Author.Rules.{rules}
 use Rattle.answers.specs.Answers.{answer_says}
 use Rattle.slots.specs.Calls.{free_call}
 use Rattle.slots.specs.Promises.{free_after}

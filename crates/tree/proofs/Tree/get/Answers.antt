@@ -1,6 +1,5 @@
 -- `tree::Tree::get` meets its contract: 1 where the tree is not sound, and else what the judge says. Assumes nothing.
 use mathlib.Core.Path.{◌≡◌, sym, ◌∙◌}
-use borrow.Author.Rules.{rules}
 use Rattle.slots.proofs.Outcomes.{shown_unsound, shown_sound}
 use Rattle.tree.specs.Layout.{tree_view}
 use Rattle.tree.proofs.Outcomes.{test_is}

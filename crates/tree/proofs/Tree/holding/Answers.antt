@@ -1,6 +1,5 @@
 -- `tree::Tree::holding` meets its contract: what is stored is that of the words. Assumes nothing.
 use mathlib.Core.Path.{ap, ◌∙◌}
-use borrow.Author.Rules.{rules}
 use Rattle.tree.specs.Layout.{tree_of}
 use Rattle.tree.proofs.Tree.holding.Goals as goal
 

@@ -1,8 +1,6 @@
 -- `tree::Tree::next_free` meets its contract: 1 where the tree is not sound, and else what the judge says, whose search sees the words. Assumes nothing.
 use mathlib.Core.Path.{◌≡◌, sym, ap, ◌∙◌}
 use mathlib.Core.List.{[], ◌∷◌}
-use borrow.Author.Rules.{rules}
-use borrow.Author.Tests.{not-false}
 use Rattle.slots.specs.Sets.{Slots}
 use Rattle.slots.specs.Calls.{says, next_free_call}
 use Rattle.slots.proofs.Outcomes.{shown_unsound, shown_sound}

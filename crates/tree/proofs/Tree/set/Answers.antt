@@ -1,6 +1,5 @@
 -- `tree::Tree::set` meets its contract: what was judged, carried out. Assumes nothing.
 use mathlib.Core.Path.{◌∙◌}
-use borrow.Author.Rules.{rules}
 use Rattle.answers.specs.Answers.{answer_says}
 use Rattle.slots.specs.Promises.{set_after}
 use Rattle.slots.specs.Calls.{set_call}

@@ -1,7 +1,6 @@
 -- `word::Word::claim` meets its contract: what was judged of its one word, carried out. Assumes nothing.
 use mathlib.Core.Path.{◌∙◌}
 use mathlib.Core.Bool.{true}
-use borrow.Author.Rules.{rules}
 use Rattle.slots.specs.Sets.{Slots}
 use Rattle.slots.specs.Calls.{claim_call}
 use Rattle.slots.specs.Promises.{claim_after}

@@ -1,6 +1,5 @@
 -- `word::Word::get` meets its contract: what the judge says of its one word. Assumes nothing.
 use mathlib.Core.Path.{◌∙◌}
-use borrow.Author.Rules.{rules}
 use Rattle.slots.specs.Sets.{Slots}
 use Rattle.slots.specs.Calls.{get_call}
 use Rattle.word.proofs.Values.{is_word}

@@ -1,6 +1,5 @@
 -- `word::Word::set` meets its contract: what was judged of its range, carried out. Assumes nothing.
 use mathlib.Core.Path.{sym, ◌∙◌}
-use borrow.Author.Rules.{rules}
 use Rattle.slots.specs.Calls.{says, set_call}
 use Rattle.slots.specs.View.{sound_answers}
 use Rattle.slots.specs.Promises.{set_after}
