@@ -1,3 +1,5 @@
 pub mod Signed
 pub mod Turns
 pub mod Outcomes
+pub mod Demands
+pub mod Image

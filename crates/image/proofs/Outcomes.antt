@@ -26,7 +26,8 @@ use Rattle.tree.specs.declared.Changed.{Changed}
 use Rattle.tree.specs.Layout.{of_slots, slot_of, tree_view}
 use Rattle.tree.specs.Says as Tree
 use Rattle.tree.specs.Demands.{counted_sound}
-use Rattle.image.specs.Image.{image_of, is_image, held_in, image_long}
+use Rattle.image.specs.Image.{image_of, is_image, held_in}
+use Rattle.image.proofs.Image.{image_long}
 use Rattle.image.specs.ImageAnswers.{numbered, signed}
 use Rattle.image.specs.Says.{written, read_of, Asked, used, on_bytes, call_of, answered_on, told, on_image}
 use Rattle.image.specs.Inner.{Short, left_on, LeftIn}

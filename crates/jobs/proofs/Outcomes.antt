@@ -25,7 +25,8 @@ use Rattle.slots.specs.Jobs.{jobs, running_in, state_by, start_call, reap_call, 
 use Rattle.slots.proofs.Jobs.{record_passed}
 use Rattle.slots.specs.JobView.{reaped_used}
 use Rattle.views.specs.Painting.{slot_in, painted_words}
-use Rattle.views.specs.Words.{AreWords, words_of, same_words, painted_words_lem}
+use Rattle.views.specs.Words.{AreWords, words_of, same_words}
+use Rattle.views.proofs.Words.{painted_words_lem}
 use Rattle.views.specs.Marks.{sixteen_fit}
 use Rattle.tree.specs.declared.Tree.{Tree}
 use Rattle.tree.specs.Layout.{tree_view, slot_of, of_slots, IsTree}

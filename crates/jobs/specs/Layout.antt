@@ -7,7 +7,7 @@ use Rattle.slots.specs.Jobs.{jobs}
 use Rattle.slots.specs.JobView as Any
 use Rattle.slots.specs.JobView.{Paired}
 use Rattle.views.specs.Painting.{slot_in}
-use Rattle.views.specs.Words.{words_view}
+use Rattle.views.proofs.Words.{words_view}
 use Rattle.views.specs.Marks.{sixteen_fit}
 use Rattle.tree.specs.declared.Tree.{Tree}
 use Rattle.tree.specs.Layout as Tree

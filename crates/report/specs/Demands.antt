@@ -3,13 +3,12 @@
 -- empty one. Rests on `Report` and on the tree's demands.
 use Rattle.std.specs.Prelude.{◌≡◌, refl, ◌↔◌, List, [], ◌∷◌, ◌++◌, ℕ, ◌+◌, ◌≤◌, ◌<◌, ltb, length, drop}
 use Rattle.std.proofs.Math.Path.{sym, ap}
-use Rattle.std.proofs.Common.{subst, ◌∙◌, inl, arith, length-append, ltb-true, ltb-false}
+use Rattle.std.proofs.Common.{subst, ◌∙◌, arith, length-append}
 use Rattle.answers.specs.Said.{Said, value, refused, ◌when◌, leaving_says, leaving_refused, leaving_value}
 use Rattle.answers.specs.Faults.{Fault, ◌if◌, First, NoFault, Finds, judged_refuses, judged_accepts, finds_lt}
 use Rattle.answers.specs.Answers.{Reply, number_says}
 use Rattle.answers.proofs.Answers.{number_says_injective}
 use Rattle.answers.specs.declared.Number.{Number}
-use Rattle.bits.specs.Range.{either}
 use Rattle.slots.specs.Sets.{none}
 use Rattle.slots.specs.Calls.{used_call}
 use Rattle.slots.specs.Plain.{Asked, call_of}
@@ -19,8 +18,7 @@ use Rattle.slots.proofs.Series.{walked_back}
 use Rattle.tree.specs.declared.Tree.{Tree}
 use Rattle.tree.specs.Layout.{tree_view, slot_of, tree_calls, Sound}
 use Rattle.report.specs.Fields.{Field, call, skip, bad, cut, fields}
-use Rattle.report.specs.Report.{Line, said, skipped, stopped, short, used, carried, lines_of, left_by, empty_tree, report_of, left_of, over, ran, RunSays, ran_map, RunMapSays, output_of, output_big, output_report, OutputSays}
-use Rattle.report.specs.Limits.{report_fits}
+use Rattle.report.specs.Report.{Line, said, skipped, stopped, short, used, carried, lines_of, left_by, empty_tree, report_of, left_of, over, ran, RunSays, ran_map, RunMapSays, output_of, OutputSays}
 
 -- ---- refusals
 
@@ -51,14 +49,6 @@ module _ (bytes buffer : List ℕ) where
 
   pub run_one_answer : (r q : Number) (after other : List ℕ) → RunSays bytes buffer r after → RunSays bytes buffer q other → (r ≡ q) × (after ≡ other)
   run_one_answer r q after other p o = (number_says_injective r q (ap (λ x. x.0) (p ∙ sym o)), ap (λ x. x.1) (p ∙ sym o))
-
-  -- the report that is said to be there has room in its buffer
-  pub run_fits : (r : Number) (after : List ℕ) → RunSays bytes buffer r after → (n : ℕ) → number_says r ≡ value n → n ≤ 54624
-  run_fits r after says n e =
-      let accepted = (run_accepts n).0 (sym (ap (λ x. x.0) says) ∙ e) in
-      either (ltb 32768 (length bytes))
-      (λ long. absurd (accepted.0 12 (inl (refl, ltb-true 32768 (length bytes) long))))
-      (λ limit. omega (arith, accepted.1, report_fits bytes (ltb-false 32768 (length bytes) limit)))
 
   -- with the map: what is said and written is the same, and the map is what the record leaves
   module _ (r : Number) (map : Tree) (after : List ℕ) (says : RunMapSays bytes buffer r map after) where
@@ -92,12 +82,6 @@ module _ (bytes : List ℕ) where
       let long : length after ≡ length (output_of bytes) + length (drop (length (output_of bytes)) before) =
       ap (λ x. length x.1) p ∙ length-append (output_of bytes) (drop (length (output_of bytes)) before) in
       omega (arith, ends, long)
-
-  pub output_fits : length (output_of bytes) ≤ 54624
-  output_fits =
-      either (ltb 32768 (length bytes))
-      (λ long. rw (output_big bytes (ltb-true _ _ long)) (omega arith))
-      (λ limit. let short-enough = report_fits bytes (ltb-false _ _ limit) in rw (output_report bytes (ltb-false _ _ limit)) (omega (arith, short-enough)))
 
 -- ---- a run is a series of demand 3
 
@@ -165,12 +149,6 @@ module _ (bytes : List ℕ) where
   -- the map that a record leaves is sound
   pub left_sound : Sound (left_of bytes)
   left_sound = fields_sound empty_tree (fields bytes) (tree_view.made_sound none tt)
-
-  pub run_answers : said_in (lines_of empty_tree (fields bytes)) ≡ answers_of tree_view tree_calls empty_tree asked
-  run_answers = lines_answer empty_tree (fields bytes)
-
-  pub run_counts : (line : Line) → last_in line (lines_of empty_tree (fields bytes)) ≡ used (used_call 10 (slot_of (left_of bytes))).answer
-  run_counts line = last_counts empty_tree (fields bytes) line
 
   -- walked backward from the tree that the run leaves, the record of its accepted calls is accepted step by step, meets the maps that stood before
   -- each of them, and comes to the empty tree

@@ -13,7 +13,7 @@ use Rattle.slots.specs.Calls.{used_call}
 use Rattle.slots.specs.Series.{made}
 use Rattle.tree.specs.declared.Tree.{Tree}
 use Rattle.tree.specs.Layout.{tree_view, slot_of, of_slots, tree_calls}
-use Rattle.report.specs.Fields.{Field, call, skip, bad, cut, first_field, fields, fields_none, fields_first}
+use Rattle.report.specs.Fields.{Field, call, skip, bad, cut, fields, fields_none}
 
 -- ---- lines
 
@@ -101,18 +101,6 @@ report_from t bytes = text_of (lines_of t (fields bytes))
 pub report_end : (t : Tree) → report_from t [] ≡ written (used (used_call 10 (slot_of t)).answer)
 unfolding report_from lines_of text_of
 report_end t = ap (λ (fs : List Field). text_of (lines_of t fs)) fields_none ∙ append-nil _
-
-pub report_first : (t : Tree) (b : ℕ) (bytes : List ℕ)
-    → let first = first_field (b ∷ bytes) in
-    let out = carried t first.0 in
-    report_from t (b ∷ bytes) ≡ written out.0 ++ report_from out.1 first.1
-unfolding report_from lines_of text_of
-report_first t b bytes = ap (λ (fs : List Field). text_of (lines_of t fs)) (fields_first b bytes)
-
-pub report_reads : (t : Tree) (b : ℕ) (bytes : List ℕ) (field : Field) (rest : List ℕ) → first_field (b ∷ bytes) ≡ (field, rest)
-    → report_from t (b ∷ bytes) ≡ written (carried t field).0 ++ report_from (carried t field).1 rest
-report_reads t b bytes field rest first =
-    report_first t b bytes ∙ (λ i. let out = carried t (first i).0 in written out.0 ++ report_from out.1 (first i).1)
 
 -- the runner starts from the empty tree
 abbrev pub empty_tree : Tree

@@ -21,7 +21,8 @@ use Rattle.slots.specs.Gaps.{having, has_value, has_other}
 use Rattle.places.specs.Places.{run_mask, free_in, used_in, painted_in}
 use Rattle.rows.specs.Rows.{mark_test, with_bit, open_from}
 use Rattle.views.specs.Marks.{passes_at, part_words}
-use Rattle.views.specs.Full.{marked, filled, filled_slots, filled_open, filled_marked, filled_used, seen_from}
+use Rattle.views.specs.Full.{marked, filled, filled_slots, filled_open, filled_marked, seen_from}
+use Rattle.views.proofs.Full.{filled_used}
 use Rattle.views.specs.Painting.{slots_in, slot_in, slots_most, word_there, slot_there, slot_past, slot_in_word, end_in, part_mask, reaches, painted_first, paint_on, paint_ahead, paint_rest}
 
 -- ---- a number whose places are set one after the other

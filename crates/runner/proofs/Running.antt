@@ -18,9 +18,11 @@ use Rattle.tree.specs.Layout.{tree_view, slot_of, of_slots, Sound}
 use Rattle.tree.specs.Says.{UsedSays}
 use Rattle.runner.specs.declared.Step.{Step}
 use Rattle.runner.specs.declared.fields.Piece.{Piece}
-use Rattle.report.specs.Fields.{first_field, fields, fields_none, fields_first}
-use Rattle.report.specs.Report.{used, written, carried, report_from, report_end, report_reads, report_of, left_by, left_of, over, ran_map, map_accepted}
-use Rattle.report.specs.Limits.{report_fits}
+use Rattle.report.specs.Fields.{first_field, fields, fields_none}
+use Rattle.report.proofs.Fields.{fields_first}
+use Rattle.report.specs.Report.{used, written, carried, report_from, report_end, report_of, left_by, left_of, over, ran_map, map_accepted}
+use Rattle.report.proofs.Report.{report_reads}
+use Rattle.report.proofs.Limits.{report_fits}
 use Rattle.report.specs.Demands.{carried_sound}
 use Rattle.bits.specs.Buffers.{put_at, put_length}
 use Rattle.runner.specs.Inner.{line_says, field_says, PieceSays, StepSays, put_over}

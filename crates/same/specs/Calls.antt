@@ -10,18 +10,17 @@ use Rattle.answers.specs.Said.{Said, value, refused, judged}
 use Rattle.answers.specs.Answers.{Reply, ok}
 use Rattle.bits.specs.Range.{either}
 use Rattle.slots.specs.Sets.{Slots, all_used, AllUsed, SomeFree, finds_all_used, finds_some_free}
-use Rattle.slots.specs.Calls.{says, past, take_call, set_call, free_call, next_free_call, get_call, empty_call, used_call}
+use Rattle.slots.specs.Calls.{says, past, set_call, free_call, next_free_call, get_call, empty_call, used_call}
 use Rattle.slots.specs.Promises.{Past, set_after, free_after, next_free_promise, next_free_decided, get_promise, used_promise}
 use Rattle.slots.proofs.Promises.{set_promise, free_promise}
 use Rattle.slots.specs.Kinds.{plain}
 use Rattle.slots.specs.View.{View, answered, changed, sound_answers, sound_accepted, sound_refused}
 use Rattle.source.specs.Machine.{gives}
-use Rattle.source.specs.BitmapAllocator.{BitmapAllocator, alloc, free}
+use Rattle.source.specs.BitmapAllocator.{BitmapAllocator, free}
 use Rattle.same.specs.Whenever.{Whenever, so, anyhow}
 use Rattle.same.specs.Answering.{surely}
 use Rattle.same.specs.Acts.{Found}
-use Rattle.same.specs.Same.{SameTake, SameChange, SameSlot, Departs}
-use Rattle.same.specs.Search as Search
+use Rattle.same.specs.Same.{SameChange, SameSlot, Departs}
 use Rattle.same.specs.Search.{Follows, Replies}
 
 -- ---- the listed departures of the calls that change the map, with their numbers in docs/DIFFERENCES.md
@@ -46,10 +45,6 @@ by_range k s n no_entries goes-past inside =
     inside some (rw (from, ends)) (pos_of_ne-zero (eqb-false n 0 some)) (omega (arith, ltb-false (2 ^ k) s from, ltb-false (2 ^ k - s) n ends)))))
 
 module _ (k : ℕ) (S : Slots) (s n : ℕ) where
-  take_none : n ≡ 0 → (a : ℕ) → says (take_call k S n a) ≡ refused 2
-  unfolding says take_call judged
-  take_none e a = rw e
-
   set_none : n ≡ 0 → (v : Bool) → says (set_call k S s n v) ≡ refused 2
   unfolding says set_call judged
   set_none e v = rw e
@@ -75,14 +70,6 @@ module _ (L : View plain) {Self : Type 0} (B : BitmapAllocator Self) (ours : Sel
   S = L.state_of (ours m)
 
   -- ---- whenever there is an answer
-
-  pub take_same : (turns n a : ℕ)
-      → Whenever (alloc B turns m n a) (λ out.
-      TakeDeparts n (ours m) (changed L (ours m) (take_call L.k S n a)) ⊎ SameTake out.0 (ours out.1) (changed L (ours m) (take_call L.k S n a)))
-  take_same turns n a =
-      either (eqb n 0)
-      (λ e. anyhow (alloc B turns m n a) _ (λ _. inl (eqb-true n 0 e, sound_refused L (ours m) _ 2 sound (take_none L.k S 0 n (eqb-true n 0 e) a))))
-      (λ some. so (alloc B turns m n a) _ _ (Search.alloc_same L B ours m law n a (pos_of_ne-zero (eqb-false n 0 some)) sound turns) (λ out same. inr same))
 
   set_inside : (s n : ℕ) (v : Bool) → 0 < n → s + n ≤ 2 ^ L.k → Whenever (B.set_to m s n v) (λ after. SameChange (ours after) (changed L (ours m) (set_call L.k S s n v)))
   set_inside s n v pos ends = so (B.set_to m s n v) _ _ (law.paints s n v pos ends) (λ after painted-so.
@@ -156,11 +143,6 @@ module _ (L : View plain) {Self : Type 0} (B : BitmapAllocator Self) (ours : Sel
   -- ---- and there is one, where no departure holds and the numbers pass
 
   module _ (Some-of : Replies L B m) where
-    pub take_is : (turns n a : ℕ) → 2 ^ L.k + 1 < turns → 0 < n → n < 2 ^ 64
-        → (out : Option ℕ × Self) × (alloc B turns m n a ≡ gives out) × SameTake out.0 (ours out.1) (changed L (ours m) (take_call L.k S n a))
-    take_is turns n a enough pos fits =
-        surely (alloc B turns m n a) _ (Search.alloc_answers L B ours m law n a pos Some-of turns enough fits) (Search.alloc_same L B ours m law n a pos sound turns)
-
     pub set_is : (s n : ℕ) (v : Bool) → 0 < n → s + n ≤ 2 ^ L.k
         → (after : Self) × (B.set_to m s n v ≡ gives after) × SameChange (ours after) (changed L (ours m) (set_call L.k S s n v))
     set_is s n v pos ends = surely (B.set_to m s n v) _ (Some-of.paints_some s n v pos ends) (set_inside s n v pos ends)
@@ -169,10 +151,6 @@ module _ (L : View plain) {Self : Type 0} (B : BitmapAllocator Self) (ours : Sel
         → (after : Self) × (free B m s n ≡ gives after) × SameChange (ours after) (changed L (ours m) (free_call L.k S s n))
     unfolding free
     free_is s n pos ends used = surely (free B m s n) _ (Some-of.paints_some s n false pos ends) (free_inside s n pos ends used)
-
-    pub next_free_is : (s : ℕ) → s < 2 ^ L.k
-        → (found : Option ℕ) × (B.next_free m s ≡ gives found) × SameSlot found (answered L (ours m) (next_free_call L.k S s))
-    next_free_is s inside = surely (B.next_free m s) _ (Some-of.finds_some s inside) (next_free_same s)
 
     pub get_is : (i : ℕ) → i < 2 ^ L.k → (b : Bool) × (B.get m i ≡ gives b) × (answered L (ours m) (get_call L.k S i) ≡ value b)
     get_is i inside = surely (B.get m i) _ (Some-of.reads_some i inside) (get_same i)

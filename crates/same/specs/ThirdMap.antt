@@ -3,31 +3,22 @@
 use Rattle.std.specs.Prelude.{◌≡◌, refl, true, ℕ}
 use Rattle.std.proofs.Common.{sym, ap, subst, ◌∙◌, zero-le, arith}
 use mathlib.Core.List.{flat_map}
-use Rattle.std.specs.Int.Count.{count_leading_zeros}
 use Rattle.bits.specs.Digits.{number}
-use Rattle.slots.specs.Sets.{Slots, none, all, painted, painted_named}
+use Rattle.slots.specs.Sets.{none, all, painted, painted_named}
 use Rattle.slots.specs.Calls.{capacity}
 use Rattle.slots.specs.View.{made_alike}
 use Rattle.views.specs.Words.{listed}
 use Rattle.views.specs.Marks.{marks_of}
 use Rattle.views.specs.Trees.{tree_words, each_of}
 use Rattle.third.specs.declared.Third.{Third}
-use Rattle.third.specs.declared.Changed.{Changed}
 use Rattle.third.specs.Layout.{slot_of, of_slots, Sound, third_view, of_slots_under}
-use Rattle.third.specs.Says.{answer_of, NewEmptySays, NewFullSays, CapacitySays}
+use Rattle.third.specs.Says.{NewEmptySays, NewFullSays, CapacitySays}
 use Rattle.source.specs.Machine.{gives}
 use Rattle.source.specs.BitmapAllocator.{Bitmap16384, Allocator16384, default16384}
 use Rattle.same.specs.Whenever.{so}
 use Rattle.same.specs.Answering.{surely}
 use Rattle.same.specs.Seen.{set_leaves}
-use Rattle.same.specs.AnyMap.{SameCalls, same_calls}
 use Rattle.same.specs.Thirds.{ours, theirs, IsBitmap, holds, GoodThird, acts_16384, seen_16384, is_good, theirs_is_bitmap}
-
--- each sound map of ours is `ours` of one value of the source's type, and of no other (`ours-theirs`, `theirs-ours`)
-pub third_same : (t : Bitmap16384) → IsBitmap t → Sound (ours t) → SameCalls third_view Allocator16384 ours Changed answer_of (λ r. r.map) t
-unfolding count_leading_zeros
-third_same t typed sound =
-    same_calls third_view Allocator16384 holds GoodThird acts_16384 ours seen_16384 (omega arith) refl (omega arith) Changed answer_of (λ r. r.map) t (is_good t typed sound)
 
 -- ---- what needs no map
 

@@ -14,7 +14,8 @@ use Rattle.views.specs.Marks.{marks_of}
 use Rattle.views.specs.Full.{full_of}
 use Rattle.views.specs.Count.{count_of}
 use Rattle.views.specs.Trees.{tree_words, tree_word, tree_words_lem, each_of, each_at}
-use Rattle.views.specs.Summaries.{tree_free, used_tree, top_of, top_kept}
+use Rattle.views.specs.Summaries.{used_tree, top_of}
+use Rattle.views.proofs.Summaries.{tree_free, top_kept}
 use Rattle.tree.specs.declared.Tree.{Tree}
 use Rattle.tree.specs.Layout as Tree
 use Rattle.tree.specs.Layout.{stored_of, tree_of, IsTree, is_tree_means}

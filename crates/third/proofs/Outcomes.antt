@@ -16,13 +16,16 @@ use Rattle.slots.specs.Calls.{Call}
 use Rattle.slots.specs.View.{answered, changed}
 use Rattle.slots.proofs.Outcomes as Any
 use Rattle.views.specs.Painting.{slot_in, painted_words}
-use Rattle.views.specs.Words.{AreWords, words_of, made_words, holds_words, slots_are, listed, listed_is, listed_agree, painted_words_lem, painted_are_words}
+use Rattle.views.specs.Words.{AreWords, words_of, made_words, slots_are, listed, listed_is, listed_agree, painted_are_words}
+use Rattle.views.proofs.Words.{holds_words, painted_words_lem}
 use Rattle.views.specs.Marks.{sixteen_fit, marks_of}
 use Rattle.views.specs.Summary.{summary_of}
 use Rattle.views.specs.Full.{full_of, filled}
 use Rattle.views.specs.Count.{count_of}
-use Rattle.views.specs.Trees.{all_fit, tree_words, tree_words_lem, tree_slot, each_of, renewed, renewed_right, filled_by_marks, sum_first, counts_sum}
-use Rattle.views.specs.Summaries.{summaries_of, top_of, top_by_summaries, top_tells}
+use Rattle.views.specs.Trees.{all_fit, tree_words, tree_words_lem, each_of, renewed, sum_first}
+use Rattle.views.proofs.Trees.{tree_slot, renewed_right, filled_by_marks, counts_sum}
+use Rattle.views.specs.Summaries.{summaries_of, top_of, top_tells}
+use Rattle.views.proofs.Summaries.{top_by_summaries}
 use Rattle.tree.specs.declared.Stored.{Stored}
 use Rattle.tree.specs.Layout as Tree
 use Rattle.third.specs.declared.Third.{Third}

@@ -6,15 +6,21 @@ use Rattle.bits.specs.Digits.{digit, number_agree}
 use Rattle.slots.specs.Sets.{Slots, Named, SomeUsed}
 use Rattle.slots.specs.Kinds.{plain}
 use Rattle.slots.specs.View.{View}
-use Rattle.views.specs.Keeping.{Kept, carried, keeping, also}
+use Rattle.views.specs.Keeping.{Kept, carried}
+use Rattle.views.proofs.Keeping.{keeping, also}
 use Rattle.views.specs.Painting.{slot_in}
-use Rattle.views.specs.Words.{AreWords, words_view, words_of, word_of, made_words, holds_words, listed, listed_first, listed_is}
+use Rattle.views.specs.Words.{AreWords, words_of, word_of, made_words, listed, listed_first, listed_is}
+use Rattle.views.proofs.Words.{words_view, holds_words}
 use Rattle.views.specs.Marks.{sixteen_fit, marks_of}
 use Rattle.views.specs.Summary.{summary_of}
-use Rattle.views.specs.Full.{full_of, full_kept}
-use Rattle.views.specs.Count.{count_of, count_kept}
-use Rattle.views.specs.Trees.{all_fit, tree_words, tree_word, tree_words_lem, tree_slot, each_kept, each_of}
-use Rattle.views.specs.Summaries.{summaries_of, top_of, top_by_summaries, summaries_kept, top_kept}
+use Rattle.views.specs.Full.{full_of}
+use Rattle.views.proofs.Full.{full_kept}
+use Rattle.views.specs.Count.{count_of}
+use Rattle.views.proofs.Count.{count_kept}
+use Rattle.views.specs.Trees.{all_fit, tree_words, tree_word, tree_words_lem, each_of}
+use Rattle.views.proofs.Trees.{tree_slot, each_kept}
+use Rattle.views.specs.Summaries.{summaries_of, top_of}
+use Rattle.views.proofs.Summaries.{top_by_summaries, summaries_kept, top_kept}
 use Rattle.tree.specs.declared.Tree.{Tree}
 use Rattle.tree.specs.Layout as Tree
 use Rattle.tree.specs.Layout.{stored_of, tree_of}

@@ -18,9 +18,11 @@ use Rattle.slots.specs.Calls.{Call, says}
 use Rattle.slots.specs.View.{answered, changed}
 use Rattle.slots.proofs.Outcomes as Any
 use Rattle.views.specs.Painting.{slot_in, slots_in, painted_words, painted_slots}
-use Rattle.views.specs.Words.{words_of, painted_words_lem, painted_are_words, slots_are}
+use Rattle.views.specs.Words.{words_of, painted_are_words, slots_are}
+use Rattle.views.proofs.Words.{painted_words_lem}
 use Rattle.views.specs.Marks.{sixteen_fit, marks_of, touched_marks, touched_right}
-use Rattle.views.specs.Summary.{not_zero, summary_of, summary_tells}
+use Rattle.views.specs.Summary.{not_zero, summary_of}
+use Rattle.views.proofs.Summary.{summary_tells}
 use Rattle.views.specs.Full.{all_ones, full_of, filled, filled_by_mark}
 use Rattle.views.specs.Count.{count_of, moved_count, moved_right}
 use Rattle.tree.specs.declared.Tree.{Tree}

@@ -9,13 +9,18 @@ use Rattle.slots.specs.Kinds.{plain}
 use Rattle.slots.specs.Family.{Family}
 use Rattle.slots.proofs.Plain.{plain_calls}
 use Rattle.slots.specs.View.{View}
-use Rattle.views.specs.Keeping.{carried, keeping, also}
+use Rattle.views.specs.Keeping.{carried}
+use Rattle.views.proofs.Keeping.{keeping, also}
 use Rattle.views.specs.Painting.{slot_in}
-use Rattle.views.specs.Words.{AreWords, words_view, word_digit, slots_are}
+use Rattle.views.specs.Words.{AreWords, word_digit, slots_are}
+use Rattle.views.proofs.Words.{words_view}
 use Rattle.views.specs.Marks.{sixteen_fit, marks_agree}
-use Rattle.views.specs.Summary.{not_zero, NotZero, finds_not_zero, summary_of, summary_kept, part_used}
-use Rattle.views.specs.Full.{all_ones, AllOnes, finds_all_ones, full_of, full_kept, part_full}
-use Rattle.views.specs.Count.{count_of, count_kept}
+use Rattle.views.specs.Summary.{not_zero, NotZero, finds_not_zero, summary_of}
+use Rattle.views.proofs.Summary.{summary_kept, part_used}
+use Rattle.views.specs.Full.{all_ones, AllOnes, finds_all_ones, full_of}
+use Rattle.views.proofs.Full.{full_kept, part_full}
+use Rattle.views.specs.Count.{count_of}
+use Rattle.views.proofs.Count.{count_kept}
 use Rattle.tree.specs.declared.Tree.{Tree}
 use Rattle.tree.specs.declared.Stored.{Stored}
 

@@ -1,12 +1,9 @@
 -- The count of used slots kept beside words in a row, in sixteen bits. Rests on `Words`.
-use Rattle.std.specs.Prelude.{◌≡◌, refl, Bool, true, false, not, List, ℕ, ◌+◌, ◌-◌, ◌%◌, ◌^◌, ◌≤◌, ◌<◌, eqb}
-use Rattle.std.proofs.Common.{sym, ap, ◌∙◌, arith, eqb→eq}
-use Rattle.std.proofs.Math.Dec.{eqb_refl}
+use Rattle.std.specs.Prelude.{◌≡◌, Bool, true, false, not, List, ℕ, ◌+◌, ◌-◌, ◌%◌, ◌^◌, ◌≤◌, ◌<◌}
+use Rattle.std.proofs.Common.{arith}
 use Rattle.bits.specs.Range.{count, count_most}
 use Rattle.slots.specs.Sets.{Slots, Named, painted, painted_count, painted_already}
-use Rattle.views.specs.Keeping.{Kept}
 use Rattle.views.specs.Painting.{slots_in, slot_in, slots_most}
-use Rattle.views.specs.Words.{words_view}
 
 -- how many slots of the words are used
 abbrev pub count_of : List ℕ → ℕ
@@ -14,20 +11,6 @@ count_of words = count (slot_in words) 0 (slots_in words)
 
 pub count_fits : (words : List ℕ) → count_of words < 2 ^ 16
 count_fits words = omega (arith, count_most (slot_in words) 0 (slots_in words), slots_most words)
-
--- what is stored is that number
-abbrev pub count_kept : (j : ℕ) (most : 2 ^ j ≤ 256) → Kept (words_view j most)
-count_kept j most = record {
-  Field = ℕ;
-  IsField = λ stored. stored < 2 ^ 16;
-  Agrees = λ words stored. stored ≡ count_of words;
-  agrees = λ words stored. eqb stored (count_of words);
-  finds_agrees = λ words stored. (eqb→eq stored (count_of words), λ e. rw e (eqb_refl (count_of words)));
-  made = count_of;
-  made_agrees = λ words held. refl;
-  made_field = count_fits;
-  only = λ words stored sound held fits agrees. sym agrees;
-}
 
 -- ---- it moves with a run
 

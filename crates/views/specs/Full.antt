@@ -1,18 +1,17 @@
 -- The mark of full words kept beside words in a row: bit i is 1 exactly if word i is all ones. And the words as a search that goes by such marks has
 -- them. Rests on `Marks`.
 use Rattle.std.specs.Prelude.{◌≡◌, refl, ◌↔◌, Bool, true, false, List, [], ◌∷◌, length, get_or, T, ltb, eqb}
-use Rattle.std.proofs.Common.{sym, ap₂, ◌∙◌, true≢false, arith, eqb→eq, pow_pos, pow-add, lt-ltb, ltb-true, ltb-false}
+use Rattle.std.proofs.Common.{sym, ap₂, ◌∙◌, true≢false, arith, eqb→eq, pow_pos, lt-ltb, ltb-true, ltb-false}
 use Rattle.std.proofs.Math.Path.{ap, fun_ext}
 use Prim.Native.Nat.{ℕ, zero, suc, ◌+◌, ◌-◌, ◌*◌, ◌/◌, ◌%◌, ◌^◌, ◌≤◌, ◌<◌, min}
 use Rattle.std.proofs.Math.Dec.{eqb_refl}
 use Rattle.bits.specs.Range.{either}
 use Rattle.bits.specs.Digits.{digit, zero_digit}
 use Rattle.bits.proofs.Digits.{digit_number, low_mask_digit, equal_digits}
-use Rattle.slots.specs.Sets.{Slots, Named, AllUsed}
-use Rattle.views.specs.Keeping.{Kept}
+use Rattle.slots.specs.Sets.{Slots, AllUsed}
 use Rattle.views.specs.Painting.{slots_in, slot_in, word_there, slot_there, slot_past, slot_in_word}
-use Rattle.views.specs.Words.{words_view, words_of, made_words, holds_words, word_held, listed, length_listed, listed_first, listed_is}
-use Rattle.views.specs.Marks.{passes_at, marks_of, marks_kept}
+use Rattle.views.specs.Words.{listed, length_listed, listed_first, listed_is}
+use Rattle.views.specs.Marks.{passes_at, marks_of}
 
 -- ---- the mark of full words
 
@@ -33,9 +32,6 @@ AllOnes word = word ≡ ones
 pub finds_all_ones : (word : ℕ) → T (all_ones word) ↔ AllOnes word
 finds_all_ones word = (eqb→eq word ones, λ e. rw e (eqb_refl ones))
 
-abbrev pub full_kept : (j : ℕ) (most : 2 ^ j ≤ 256) → Kept (words_view j most)
-full_kept = marks_kept all_ones AllOnes finds_all_ones
-
 -- a word is all ones exactly if each of its slots is used
 pub word_full : (words : List ℕ) (i : ℕ) → i * 64 < slots_in words → get_or words i 0 < 2 ^ 64 → AllOnes (get_or words i 0) ↔ AllUsed (slot_in words) (i * 64) 64
 word_full words i there fits = (
@@ -52,18 +48,6 @@ word_full words i there fits = (
 
     one : (p : ℕ) → p < 64 → digit ones p ≡ true
     one p l = low_mask_digit 64 p ∙ lt-ltb p 64 l
-
--- so a bit of the mark of a set's words tells whether the set has all of the word's slots
-pub part_full : (j : ℕ) → 2 ^ j ≤ 256 → (S : Slots) (i : ℕ) → i < 2 ^ j → AllOnes (get_or (words_of j S) i 0) ↔ AllUsed S (i * 64) 64
-part_full j most S i l =
-    let held = made_words j S in
-    let full = word_full (words_of j S) i (word_held j most (words_of j S) held i l) (held.each_fits i l) in (
-      λ e s named. sym (same s named) ∙ full.0 e s named,
-      λ used. full.1 (λ s named. same s named ∙ used s named),
-    )
-  where
-    same : (s : ℕ) → Named (i * 64) 64 s → slot_in (words_of j S) s ≡ S s
-    same s named = holds_words j most S s (omega (arith, named, pow-add 2 j 6))
 
 -- ---- the words as a search has them that goes by marks, right or wrong
 
@@ -139,23 +123,10 @@ module _ (words fulls : List ℕ) where
       ∙ ap (λ (w : ℕ). digit w (p % 64)) (filled_word_lem (p / 64) (word_there words (p / 64) (omega arith)).0 true is)
       ∙ low_mask_digit 64 (p % 64) ∙ lt-ltb (p % 64) 64 (omega arith)
 
-  -- so no used slot is lost
-  pub filled_used : (p : ℕ) → p < slots_in words → slot_in words p ≡ true → slot_in (filled words fulls) p ≡ true
-  filled_used p l used = either (marked fulls (p / 64)) (filled_marked p l) (λ t. filled_open p t ∙ used)
-
   -- ---- a search from a slot on: that slot is looked at itself, and only then do marks count
 
   abbrev pub seen_from : ℕ → Slots
   seen_from from p = elim (eqb p from) [ true ↦ slot_in words p | false ↦ slot_in (filled words fulls) p ]
-
-  -- what is used there is used in the filled words
-  pub seen_used : (from p : ℕ) → seen_from from p ≡ true → slot_in (filled words fulls) p ≡ true
-  seen_used from p used =
-      either (eqb p from)
-      (λ t. let here = sym (ap (λ (b : Bool). elim b [ true ↦ slot_in words p | false ↦ slot_in (filled words fulls) p ]) t) ∙ used in
-      either (ltb p (slots_in words)) (λ l. filled_used p (ltb-true p (slots_in words) l) here)
-      (λ l. absurd (true≢false (sym here ∙ slot_past words p (ltb-false p (slots_in words) l)))))
-      (λ t. sym (ap (λ (b : Bool). elim b [ true ↦ slot_in words p | false ↦ slot_in (filled words fulls) p ]) t) ∙ used)
 
   -- where the filled words are the words as they are, so is what a search sees
   pub seen_right : filled words fulls ≡ words → (from : ℕ) → seen_from from ≡ slot_in words

@@ -3,7 +3,7 @@ use Rattle.std.specs.Prelude.{◌≡◌, refl, ◌↔◌, Bool, true, false, not
 use Rattle.std.proofs.Common.{sym, ap, ◌∙◌, zero-le, arith}
 use Rattle.answers.specs.Faults.{finds_both}
 use Rattle.bits.specs.Range.{every, finds_every, same_test}
-use Rattle.bits.specs.Digits.{digit, number, number_lt}
+use Rattle.bits.specs.Digits.{digit, number}
 use Rattle.bits.proofs.Digits.{digit_number, number_is}
 use Rattle.slots.specs.Kinds.{Kind, State}
 use Rattle.slots.specs.View.{View}
@@ -98,39 +98,6 @@ module _ {K : Kind} (L : View K) (F : Kept L) where
       ap with_kept (L.same m.map sound.map_sound held.is_map)
       ∙ (λ i. record { map = m.map; kept = F.only m.map m.kept sound.map_sound held.is_map held.is_field sound.kept_agrees i })
 
-  -- a second and a third field are the same step again
-  abbrev pub keeping : View K
-  keeping = record {
-    k = L.k;
-    Map = Both;
-    state_of = λ m. L.state_of m.map;
-    of_state = λ X. with_kept (L.of_state X);
-    Sound = SoundBeside;
-    is_sound = sound_beside;
-    IsMap = MapBeside;
-    finds_sound = finds_sound_beside;
-    holds = λ X p h. L.holds X p h;
-    past = λ m held p h. L.past m.map held.is_map p h;
-    right = λ m sound held. L.right m.map sound.map_sound held.is_map;
-    made_sound = λ X right. record { map_sound = L.made_sound X right; kept_agrees = F.made_agrees (L.of_state X) (L.made_map X) };
-    made_map = λ X. record { is_map = L.made_map X; is_field = F.made_field (L.of_state X) };
-    same = same_beside;
-  }
-
--- a field that agrees with the map alone, beside a map that keeps another already
-abbrev pub also : {K : Kind} (L : View K) (F G : Kept L) → Kept (keeping L F)
-also L F G = record {
-  Field = G.Field;
-  IsField = G.IsField;
-  Agrees = λ m f. G.Agrees m.map f;
-  agrees = λ m f. G.agrees m.map f;
-  finds_agrees = λ m f. G.finds_agrees m.map f;
-  made = λ m. G.made m.map;
-  made_agrees = λ m held. G.made_agrees m.map held.is_map;
-  made_field = λ m. G.made_field m.map;
-  only = λ m f sound held fits h. G.only m.map f sound.map_sound held.is_map fits h;
-}
-
 -- ---- bits that say something of each part of a map, in one number
 
 abbrev alike : Bool → Bool → Bool
@@ -172,18 +139,3 @@ module _ {M : Type 0} (n : ℕ) (P : M → ℕ → Type 0) (p : M → ℕ → Bo
 
   pub only_bits : (m : M) (f : ℕ) → f < 2 ^ n → BitsAgree m f → bits_of m ≡ f
   only_bits m f fits h = sym (number_is n f (p m) fits (λ i l. (told (digit f i) (p m i) (finds m i)).1 (h i l)))
-
--- one number of n bits, kept beside a map
-module _ {K : Kind} (L : View K) (n : ℕ) (P : L.Map → ℕ → Type 0) (p : L.Map → ℕ → Bool) (finds : (m : L.Map) (i : ℕ) → T (p m i) ↔ P m i) where
-  abbrev pub bits_kept : Kept L
-  bits_kept = record {
-    Field = ℕ;
-    IsField = λ f. f < 2 ^ n;
-    Agrees = BitsAgree n P p finds;
-    agrees = bits_agree n P p finds;
-    finds_agrees = finds_bits n P p finds;
-    made = bits_of n P p finds;
-    made_agrees = λ m held. made_bits n P p finds m;
-    made_field = λ m. number_lt (p m) n;
-    only = λ m f sound held fits h. only_bits n P p finds m f fits h;
-  }

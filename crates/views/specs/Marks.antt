@@ -9,9 +9,8 @@ use borrow.Author.Tests.{ltb-true, ltb-false}
 use Rattle.bits.specs.Range.{either, same_test}
 use Rattle.bits.specs.Digits.{digit, number, number_agree}
 use Rattle.bits.proofs.Digits.{digit_number}
-use Rattle.views.specs.Keeping.{Kept, BitsAgree, made_bits, only_bits, bits_kept}
+use Rattle.views.specs.Keeping.{BitsAgree, made_bits, only_bits}
 use Rattle.views.specs.Painting.{slots_in, end_in, reaches, painted_words, painted_long, kept_word}
-use Rattle.views.specs.Words.{words_view}
 
 -- a row may have sixteen words
 pub sixteen_fit : 2 ^ 4 ≤ 256
@@ -48,9 +47,6 @@ module _ (test : ℕ → Bool) (Is : ℕ → Type 0) (finds : (word : ℕ) → T
 
   abbrev pub MarksAgree : List ℕ → ℕ → Type 0
   MarksAgree = BitsAgree 16 IsAt (passes_at test) finds_at
-
-  abbrev pub marks_kept : (j : ℕ) (most : 2 ^ j ≤ 256) → Kept (words_view j most)
-  marks_kept j most = bits_kept (words_view j most) 16 IsAt (passes_at test) finds_at
 
   -- the marks of the words agree with them, and no others do
   pub marks_right : (words : List ℕ) → MarksAgree words (marks_of test words)

@@ -1,6 +1,6 @@
 -- A field for each part of a map, in a row beside the map: field i has to agree with part i. Rests on `Keeping`.
 use Rattle.std.specs.Prelude.{◌≡◌, ◌↔◌, Bool, true, List, ℕ, ◌<◌, T, length, get_or}
-use Rattle.std.proofs.Common.{sym, ap, zero-le, arith}
+use Rattle.std.proofs.Common.{sym, zero-le, arith}
 use Rattle.bits.specs.Range.{every, finds_every, same_test}
 use Rattle.slots.specs.Kinds.{Kind}
 use Rattle.slots.specs.View.{View}
@@ -51,16 +51,3 @@ module _ {K J : Kind} (L : View K) (n : ℕ) (P : View J) (part : L.Map → ℕ 
   pub only_row : (m : L.Map) (fields : Row) → L.Sound m → L.IsMap m → IsRow fields → RowAgrees m fields → row_of m ≡ fields
   only_row m fields sound held fits h = sym (listed_is fields (λ i. F.made (part m i)) n none fits.so_many (λ i l.
       sym (F.only (part m i) (get_or fields i none) (part_sound m sound i l) (part-map m held i l) (fits.each_fits i l) (h i l))))
-
-  abbrev pub row_kept : Kept L
-  row_kept = record {
-    Field = Row;
-    IsField = IsRow;
-    Agrees = RowAgrees;
-    agrees = row_agrees;
-    finds_agrees = finds_row;
-    made = row_of;
-    made_agrees = made_row;
-    made_field = is_row;
-    only = only_row;
-  }

@@ -1,17 +1,15 @@
 -- The summary kept beside words in a row: bit i is 1 exactly if word i is not 0. Rests on `Marks`.
 use Rattle.std.specs.Prelude.{◌≡◌, ◌↔◌, Bool, false, not, List, ℕ, ◌+◌, ◌-◌, ◌*◌, ◌/◌, ◌^◌, ◌≤◌, ◌<◌, get_or, T, eqb}
-use Rattle.std.proofs.Common.{sym, ap, ◌∙◌, true≢false, zero-le, arith, eqb→eq, pow_pos, pow-add, eq-eqb, eqb-true}
+use Rattle.std.proofs.Common.{sym, ap, ◌∙◌, true≢false, zero-le, arith, pow_pos, eq-eqb, eqb-true}
 use Rattle.std.proofs.Math.Dec.{not_T}
 use Rattle.std.proofs.lemmas.Bool.{not-false}
 use Rattle.answers.specs.Faults.{finds_eq, finds_not}
-use Rattle.bits.specs.Range.{same_test}
 use Rattle.bits.specs.Digits.{digit, number_lt, zero_digit}
 use Rattle.bits.proofs.Digits.{digit_number, equal_digits}
-use Rattle.slots.specs.Sets.{Slots, Named, AllFree, SomeUsed, all_free, finds_all_free, finds_some_used}
-use Rattle.views.specs.Keeping.{Kept}
+use Rattle.slots.specs.Sets.{AllFree, SomeUsed, all_free, finds_all_free, finds_some_used}
 use Rattle.views.specs.Painting.{slots_in, slot_in, slot_in_word}
-use Rattle.views.specs.Words.{AreWords, words_of, made_words, holds_words, words_view, word_held}
-use Rattle.views.specs.Marks.{sixteen_fit, marks_of, marks_kept}
+use Rattle.views.specs.Words.{AreWords, word_held}
+use Rattle.views.specs.Marks.{sixteen_fit, marks_of}
 
 -- ---- the summary of a part of the words
 
@@ -37,9 +35,6 @@ used_word words i = not_zero (get_or words i 0)
 abbrev pub UsedWord : List ℕ → ℕ → Type 0
 UsedWord words i = NotZero (get_or words i 0)
 
-abbrev pub summary_kept : (j : ℕ) (most : 2 ^ j ≤ 256) → Kept (words_view j most)
-summary_kept = marks_kept not_zero NotZero finds_not_zero
-
 -- ---- which slots it tells of
 
 -- a word is 0 exactly if none of its slots is used
@@ -64,18 +59,6 @@ word_used words i there fits =
       λ some e. true≢false (sym some.2 ∙ free.0 e some.0 some.1),
     )
 
--- so a bit of the summary of a set's words tells whether the set has one of the word's slots
-pub part_used : (j : ℕ) → 2 ^ j ≤ 256 → (S : Slots) (i : ℕ) → i < 2 ^ j → UsedWord (words_of j S) i ↔ SomeUsed S (i * 64) 64
-part_used j most S i l =
-    let held = made_words j S in
-    let used = word_used (words_of j S) i (word_held j most (words_of j S) held i l) (held.each_fits i l) in (
-      λ h. let some = used.0 h in (some.0, some.1, sym (same some.0 some.1) ∙ some.2),
-      λ some. used.1 (some.0, some.1, same some.0 some.1 ∙ some.2),
-    )
-  where
-    same : (s : ℕ) → Named (i * 64) 64 s → slot_in (words_of j S) s ≡ S s
-    same s named = holds_words j most S s (omega (arith, named, pow-add 2 j 6))
-
 -- sixteen words: the summary is 0 exactly if no slot is used
 pub none_used : (words : List ℕ) → AreWords 4 words → (summary_of words ≡ 0) ↔ AllFree (slot_in words) 0 1024
 unfolding marks_of
@@ -94,12 +77,3 @@ none_used words held = (
   where
     there : (i : ℕ) → i < 16 → i * 64 < slots_in words
     there i l = word_held 4 sixteen_fit words held i l
-
--- so the summary alone tells whether they are empty
-pub summary_tells : (words : List ℕ) → AreWords 4 words → eqb (summary_of words) 0 ≡ all_free (slot_in words) 0 1024
-summary_tells words held =
-    let none = none_used words held in
-    let found = finds_all_free (slot_in words) 0 1024 in
-    same_test (eqb (summary_of words) 0) (all_free (slot_in words) 0 1024)
-    (λ e. found.1 (none.0 (eqb→eq (summary_of words) 0 e)))
-    (λ free. rw (none.1 (found.0 free)) tt)

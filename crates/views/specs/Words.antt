@@ -1,15 +1,13 @@
 -- The view of 2 ^ j words of 64 slots in a row, with nothing beside them: always sound. Rests on `Painting` and on the views of `slots`.
-use Rattle.std.specs.Prelude.{◌≡◌, refl, Bool, true, false, List, [], ◌∷◌, ℕ, zero, suc, ◌+◌, ◌*◌, ◌/◌, ◌%◌, ◌^◌, ◌≤◌, ◌<◌, length, get_or, ltb}
+use Rattle.std.specs.Prelude.{◌≡◌, refl, Bool, false, List, [], ◌∷◌, ℕ, zero, suc, ◌+◌, ◌*◌, ◌^◌, ◌≤◌, ◌<◌, length, get_or, ltb}
 use Rattle.std.proofs.Common.{sym, ap, ◌∙◌, suc-add, add-suc, add-zero, zero-add, arith, ext_get_or, pow_pos, pow-add, ltb-true, ltb-false}
 use Rattle.std.proofs.Math.Path.{fun_ext}
 use Rattle.std.proofs.Math.ListN.{get_or-eq_default}
 use Rattle.bits.specs.Range.{either}
 use Rattle.bits.specs.Digits.{digit, number, number_lt, number_digit, number_agree}
 use Rattle.bits.proofs.Digits.{digit_number, past_digit}
-use Rattle.slots.specs.Sets.{Slots, painted}
-use Rattle.slots.specs.Kinds.{plain}
-use Rattle.slots.specs.View.{View, made_alike}
-use Rattle.views.specs.Painting.{slots_in, slot_in, slots_all, slot_there, slot_past, slot_in_word, end_in, painted_words, painted_slots, painted_long, painted_fit}
+use Rattle.slots.specs.Sets.{Slots}
+use Rattle.views.specs.Painting.{slots_in, slot_in, slots_all, slot_past, slot_in_word, end_in, painted_words, painted_long, painted_fit}
 
 -- ---- lists
 
@@ -81,11 +79,6 @@ module _ (j : ℕ) (most : 2 ^ j ≤ 256) where
   pub word_held : (words : List ℕ) → AreWords j words → (i : ℕ) → i < 2 ^ j → i * 64 < slots_in words
   word_held words held i l = rw (slots_all words (2 ^ j) held.so_many most) (omega arith)
 
-  pub holds_words : (S : Slots) (s : ℕ) → s < 2 ^ (j + 6) → slot_in (words_of j S) s ≡ S s
-  holds_words S s l =
-      slot_there (words_of j S) s (rw (slots_are (words_of j S) (made_words j S)) l)
-      ∙ word_digit j S (s / 64) (s % 64) (omega (arith, pow-add 2 j 6)) (omega arith) ∙ ap S (omega arith)
-
   pub past_words : (words : List ℕ) → AreWords j words → (s : ℕ) → 2 ^ (j + 6) ≤ s → slot_in words s ≡ false
   past_words words held s l = slot_past words s (rw (slots_are words held) l)
 
@@ -98,24 +91,6 @@ module _ (j : ℕ) (most : 2 ^ j ≤ 256) where
       ∙ number_agree _ (digit (get_or words i 0)) 64 (λ p q. slot_in_word words i p (word_held words held i b) q)
       ∙ number_digit (get_or words i 0) 64 (held.each_fits i b))
 
-  abbrev pub words_view : View plain
-  words_view = record {
-    k = j + 6;
-    Map = List ℕ;
-    state_of = slot_in;
-    of_state = words_of j;
-    Sound = λ m. Unit {0};
-    is_sound = λ m. true;
-    IsMap = AreWords j;
-    finds_sound = λ m. (λ t. tt, λ t. tt);
-    holds = holds_words;
-    past = past_words;
-    right = λ m sound held. tt;
-    made_sound = λ S right. tt;
-    made_map = made_words j;
-    same = λ m sound held. same_words m held;
-  }
-
   -- ---- a run painted in them
 
   pub painted_are_words : (words : List ℕ) → AreWords j words → (s n : ℕ) (v : Bool) → AreWords j (painted_words words s n v)
@@ -124,13 +99,6 @@ module _ (j : ℕ) (most : 2 ^ j ≤ 256) where
     so_many = painted_long words s n v ∙ held.so_many;
     each_fits = λ i l. painted_fit words s (end_in (slots_in words) s n) v (any_fits j words held) 256 i;
   }
-
-  -- the painted words are those of the painted set
-  pub painted_words_lem : (words : List ℕ) → AreWords j words → (s n : ℕ) (v : Bool) → painted_words words s n v ≡ words_of j (painted (slot_in words) s n v)
-  painted_words_lem words held s n v =
-      sym (same_words (painted_words words s n v) (painted_are_words words held s n v))
-      ∙ made_alike words_view (slot_in (painted_words words s n v)) (painted (slot_in words) s n v) tt tt
-      (λ p l. painted_slots words s n v p (rw (slots_are words held) l))
 
 -- ---- one word: its slots are its digits
 

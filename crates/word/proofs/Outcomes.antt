@@ -15,7 +15,8 @@ use Rattle.slots.specs.View.{answered, sound_answers}
 use Rattle.slots.proofs.Outcomes.{carried_out_lem}
 use Rattle.views.specs.Painting.{slot_in}
 use Rattle.views.specs.Full.{filled, filled_unmarked, seen_from, seen_right}
-use Rattle.views.specs.Words.{one_word, painted_words_lem, word_held}
+use Rattle.views.specs.Words.{one_word, word_held}
+use Rattle.views.proofs.Words.{painted_words_lem}
 use Rattle.views.specs.Summary.{word_free}
 use Rattle.word.specs.declared.Word.{Word}
 use Rattle.word.specs.declared.Changed.{Changed}

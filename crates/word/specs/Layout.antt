@@ -9,7 +9,8 @@ use Rattle.slots.proofs.Plain.{plain_calls}
 use Rattle.slots.specs.View.{View}
 use Rattle.views.specs.Keeping.{carried, seen_as}
 use Rattle.views.specs.Words as Words
-use Rattle.views.specs.Words.{listed, listed_first, words_of, words_view, one_word}
+use Rattle.views.specs.Words.{listed, listed_first, words_of, one_word}
+use Rattle.views.proofs.Words.{words_view}
 use Rattle.word.specs.declared.Word.{Word}
 
 abbrev pub slot_of : Word → Slots

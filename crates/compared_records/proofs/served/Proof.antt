@@ -5,7 +5,8 @@ use native.Mathlib.Omega.{arith}
 use lib.ListN.{length}
 use lib.Seq.{length-take-le}
 use Rattle.answers.specs.Answers.{number_says}
-use Rattle.report.specs.Demands.{run_map_runs, run_fits}
+use Rattle.report.specs.Demands.{run_map_runs}
+use Rattle.report.proofs.Demands.{run_fits}
 use borrow.Author.Rules.{rules}
 use Rattle.compared_records.proofs.served.Statement.{statement}
 use Rattle.compared_records.proofs.served.Tie as tie

@@ -6,7 +6,8 @@ use native.Mathlib.Omega.{arith}
 use borrow.Author.Rules.{rules}
 use Rattle.answers.specs.Answers.{next_free_says}
 use Rattle.views.specs.Painting.{slot_in}
-use Rattle.views.specs.Full.{filled, seen_from, seen_used}
+use Rattle.views.specs.Full.{filled, seen_from}
+use Rattle.views.proofs.Full.{seen_used}
 use Rattle.slots.specs.Sets.{Slots, AllFree}
 use Rattle.slots.specs.Search.{searched_past, searched_full, searched_found}
 use Rattle.slots.specs.Tries.{Ahead, Trying, trying_first, next_found, next_none, run_free, run_not_free}

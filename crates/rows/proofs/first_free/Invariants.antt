@@ -13,7 +13,8 @@ use borrow.Author.Tests.{not-true, not-false}
 use Rattle.slots.specs.Sets.{Slots}
 use Rattle.slots.specs.Lowest.{free_from}
 use Rattle.views.specs.Painting.{slots_in, slot_in, slots_most, word_there}
-use Rattle.views.specs.Full.{marked, filled, filled_slots, filled_open, filled_marked, filled_used, seen_from}
+use Rattle.views.specs.Full.{marked, filled, filled_slots, filled_open, filled_marked, seen_from}
+use Rattle.views.proofs.Full.{filled_used}
 use Rattle.rows.proofs.Reasons.{Passed, passed_none, passed_on, passed_found, passed_all, far_from, open_later, open_most, Searching, searching_on, seen_filled, seen_here, used_inside, word_full, word_has, word_from, word_stops}
 use Rattle.rows.proofs.first_free.Given as goal
 

@@ -1,0 +1,37 @@
+-- `measured::gaps_free` meets its contract: the listings that are left end where all of them do. Assumes nothing.
+use mathlib.Core.Path.{◌≡◌, refl, ◌∙◌}
+use mathlib.Core.Bool.{false}
+use lib.ListN.{length}
+use borrow.Author.Rules.{rules}
+use Rattle.tree.specs.Layout.{holding}
+use Rattle.measured.specs.Gaps.{listing}
+use Rattle.measured.proofs.Steps.{Ends, begins, step_made, none_left, listing_made}
+use Rattle.measured.proofs.gaps_free.Goals as goal
+use Rattle.measured.proofs.gaps_free.Lts as lts
+use Rattle.measured.proofs.gaps_free.Reads as reads
+use Rattle.measured.proofs.gaps_free.Tie as tie
+
+abbrev After-count_of-count : Type 0
+After-count_of-count = lts.After-count_of tie.the-claims reads.Pre reads.Post goal.the-invariant-loop-left goal.the-decreases-loop-left
+
+pub loop-left-init : goal.loop-left-init
+loop-left-init c = (begins, refl)
+
+-- a listing keeps the buffer's length
+length-made : (c : After-count_of-count) → length c.free_runs.new.list ≡ length c.loop-left.list
+length-made c = search rules
+
+pub loop-left-preserved : goal.loop-left-preserved
+loop-left-preserved c =
+    let made = c in
+    let in-loop = made in
+    let at_head = in-loop in (
+      step_made _ _ _ in-loop.loop-left-test.true at_head.loop-left.invariant.0 (listing_made _ _ _ _ at_head.loop-left.count _ _ _ at_head.holding-tree.ensures made.free_runs.ensures c.count_of-count.ensures),
+      length-made c.before ∙ at_head.loop-left.invariant.1,
+    )
+
+pub shape_of-list : goal.shape_of-list
+shape_of-list c = c.loop-left.invariant.1
+
+pub returns : goal.returns
+returns c = none_left _ _ c.loop-left-test.false c.loop-left.invariant.0

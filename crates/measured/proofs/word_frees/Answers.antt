@@ -1,0 +1,22 @@
+-- `measured::word_frees` meets its contract: what is left of the frees ends where all of them do. Assumes nothing.
+use mathlib.Core.Path.{ap}
+use mathlib.Core.List.{[], ◌∷◌}
+use Prim.Native.Nat.{◌-◌}
+use lib.ListN.{length, get_or, drop}
+use borrow.Author.Rules.{rules}
+use Rattle.word.specs.Layout.{word_of, word_view}
+use Rattle.measured.specs.Series.{frees_of}
+use Rattle.measured.proofs.Turns.{Ends, begins, free_turn, none_to_free, finished}
+use Rattle.measured.proofs.word_frees.Goals as goal
+
+pub loop-i-init : goal.loop-i-init
+loop-i-init c = begins _ c.holding-word.ensures
+
+pub loop-i-preserved : goal.loop-i-preserved
+loop-i-preserved c = free_turn _ _ _ c.free.result.map c.loop-i-test.true c.loop-i.invariant (ap (λ o. o.1) c.free.ensures)
+
+pub returns : goal.returns
+returns c =
+    let out-of-loop = c in
+    let at_head = out-of-loop.loop-i in
+    finished (λ w. w.bits ∷ []) _ _ (none_to_free _ _ at_head.i out-of-loop.loop-i-test.false at_head.invariant) c.left_in_word.ensures

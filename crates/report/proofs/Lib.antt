@@ -1,0 +1,4 @@
+pub mod Demands
+pub mod Fields
+pub mod Limits
+pub mod Report

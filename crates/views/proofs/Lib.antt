@@ -1,0 +1,9 @@
+pub mod Count
+pub mod Full
+pub mod Keeping
+pub mod Marks
+pub mod Parts
+pub mod Summaries
+pub mod Summary
+pub mod Trees
+pub mod Words
