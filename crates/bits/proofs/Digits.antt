@@ -23,6 +23,7 @@ unfolding digit
 high_digit q d i h = ap (λ (n : ℕ). digit n i) (digits_div q h)
 
 -- ---- a number and its digits
+
 pub digit_number : (f : ℕ → Bool) (w i : ℕ) → i < w → digit (number f w) i ≡ f i
 unfolding number
 digit_number f zero i h = absurd (not-suc-le-zero h)
@@ -39,6 +40,7 @@ pub equal_digits : (w a b : ℕ) → a < 2 ^ w → b < 2 ^ w → ((i : ℕ) → 
 equal_digits w a b ha hb h = number_is w a (digit b) ha h ∙ number_digit b w hb
 
 -- ---- and, or: digit by digit
+
 module _ (op f : ℕ → ℕ → ℕ) (g : Bool → Bool → Bool)
     (step : (a b : ℕ) → op a b ≡ op (a / 2) (b / 2) * 2 + f (a % 2) (b % 2))
     (low : (x y : ℕ) → x < 2 → y < 2 → f x y < 2)
@@ -68,6 +70,7 @@ pub or_digit : (a b i : ℕ) → digit (bit_or a b) i ≡ digit a i || digit b i
 or_digit = digitwise bit_or max ◌||◌ or_step (λ x y hx hy. omega arith) max_digit
 
 -- ---- the complement in w places
+
 complement_step : (w a : ℕ) → a < 2 ^ suc w → (2 ^ suc w - 1) - a ≡ ((2 ^ w - 1) - a / 2) * 2 + (1 - a % 2)
 complement_step w a h =
     let e : 2 ^ suc w ≡ 2 ^ w * 2 = pow-suc 2 w in

@@ -11,6 +11,7 @@ use Rattle.bits.proofs.Digits.{digit_number, past_digit, low_mask_digit}
 use Rattle.bits.specs.Masks.{low_mask, places, mask_between, mask_faults}
 
 -- ---- what the answers mean
+
 -- entry k has a 1 in each place below k and in no other: k ones
 pub low_mask_places : (k i : ℕ) → k ≤ 64 → digit (low_mask k) i ≡ ltb i k
 unfolding low_mask

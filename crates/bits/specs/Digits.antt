@@ -62,8 +62,6 @@ number_agree f g zero h = refl
 number_agree f g (suc w) h =
     ap₂ (λ (q : ℕ) (b : Bool). q * 2 + bit b) (number_agree (λ i. f (suc i)) (λ i. g (suc i)) w (λ i l. h (suc i) (omega arith))) (h 0 (omega arith))
 
--- ---- the complement in w places
-
 -- ---- shifts
 
 -- down by k places: place i holds what place k + i held

@@ -1,5 +1,5 @@
 -- What each judge answers: what is said of its call on the set that the words hold, at the capacity of the size. Where it goes by marks of full words, the
--- set is that of the words with each marked one filled (`filled`); of next free, the slot that is asked for counts as it is (`seenFrom`). Rests on `Sizes`.
+-- set is that of the words with each marked one filled (`filled`); of next free, the slot that is asked for counts as it is (`seen_from`). Rests on `Sizes`.
 use Rattle.std.specs.Prelude.{◌≡◌, Bool, true, false, List, ℕ}
 use Rattle.std.proofs.Common.{sym, ◌∙◌}
 use Rattle.answers.specs.Said.{judged, on_value}

@@ -13,10 +13,6 @@ Consumed n skip rest = length rest + 3 ≤ n
 Consumed n bad rest = rest ≡ []
 Consumed n cut rest = rest ≡ []
 
--- ---- how long its line is
-
--- ---- so the report is short
-
 -- ---- and one is as long: so many empty skips, and two bytes more
 
 abbrev pub skips_and_two : ℕ → List ℕ

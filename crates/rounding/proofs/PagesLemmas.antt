@@ -11,6 +11,7 @@ use Rattle.rounding.proofs.Multiples.{finds_none_fits}
 use Rattle.rounding.specs.Pages.{page_size, page_up, pages, pages_end, last_page, pages_fit}
 
 -- ---- what the answers mean
+
 page_pos : 0 < page_size
 page_pos = zero-lt-suc 4095
 

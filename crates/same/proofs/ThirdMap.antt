@@ -10,7 +10,7 @@ use Rattle.same.specs.AnyMap.{SameCalls}
 use Rattle.same.proofs.AnyMap.{same_calls}
 use Rattle.same.specs.Thirds.{ours, IsBitmap, holds, GoodThird, acts_16384, seen_16384, is_good}
 
--- each sound map of ours is `ours` of one value of the source's type, and of no other (`ours-theirs`, `theirs-ours`)
+-- each sound map of ours is `ours` of one value of the source's type, and of no other (`ours_theirs`, `theirs_ours`)
 pub third_same : (t : Bitmap16384) → IsBitmap t → Sound (ours t) → SameCalls third_view Allocator16384 ours Changed answer_of (λ r. r.map) t
 unfolding count_leading_zeros
 third_same t typed sound =

@@ -33,5 +33,3 @@ module _ (B R : View plain) (M : Type 0) (P : Paired B R M) (Out : Type 0) (said
   below [] rs = []
   below (c ∷ cs) [] = []
   below (c ∷ cs) (r ∷ rs) = reaching c (said r) (below cs rs)
-
-  -- ---- a series

@@ -86,5 +86,3 @@ module _ (B R : View plain) (M : Type 0) (P : Paired B R M) (Out : Type 0) (said
     pub of_any : (m : M) → OfAny m
     pub of_sound : (m : M) → L.Sound m → OfSound m
     pub of_series : (m : M) → L.IsMap m → (cs : List Asked) (rs : List Out) → Turns.Ran L Out said left m cs rs → OfSeries m cs rs
-
-  -- ---- every layout of jobs meets them, whose outcomes are known by what they say and leave

@@ -66,5 +66,3 @@ module _ (k : ℕ) (S : Slots) (n a : ℕ) (pos : 0 < n) where
       aligned = (_, refl);
       none_below = λ o h f. none o (not_below o f) (next_passes a p o f.aligned h) f;
     }
-
-  -- ---- what the search then says

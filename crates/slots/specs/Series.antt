@@ -131,8 +131,6 @@ module _ {K : Kind} (L : View K) (F : Family K L.k) where
     pub accepted : AllDone (answers_of m (forward es))
     pub ends : last_of m (forward es) ≡ last
 
-  -- ---- in any order
-
   -- ---- demand 3 of outcomes: the caller makes the calls, has what they say and leave, and makes the calls of the record, all by the contracts
 
   module _ (Out : Type 0) (said : Out → Said Reply) (left : Out → L.Map) where

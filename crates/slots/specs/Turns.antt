@@ -97,8 +97,6 @@ module _ (p o m : ℕ) (zs : List Event) (granting : Named o m p) where
   recorded_between s n named ys (x ∷ xs) is to (inl t) = recorded_between s n named ys xs (after x) to t.2
   recorded_between s n named ys (x ∷ xs) is to (inr t) = recorded_between s n named ys xs is to t.1
 
--- ---- an accepted call moves the slots of its event, and no others
-
 -- ---- of outcomes
 
 module _ (L : View jobs) (Out : Type 0) (said : Out → Said Reply) (left : Out → L.Map) where

@@ -9,7 +9,6 @@ use Rattle.bits.specs.Range.{le_of_not_lt}
 use Rattle.spans.specs.Clearing.{zeroed, cleared, OnlyZeroed, clear_faults}
 
 module _ (bytes : List ℕ) (s e : ℕ) where
-
   module _ (order : s ≤ e) (fits : e ≤ length bytes) where
     front_long : length (take s bytes) ≡ s
     front_long = length-take-le s bytes (omega arith)
