@@ -1,8 +1,8 @@
 // The image of a tree map: its words and its summary as 136 bytes, for a host in C that keeps the map as
 // bytes. Tag 32, length 128, the words; then tag 33, length 2, the summary; numbers low byte first.
-// Write and read turn a map into an image and back. Take, free and used are exported to C, each on an
-// image that the host lends, and answer one signed number. What a tree stores beside its summary is no
-// part of an image and is worked out from the words. Rests on `tree`.
+// Write and read turn a map into an image and back. Take, free and used are for C, each on an image that
+// the host lends, and answer one signed number; `image_c` exports them. What a tree stores beside its
+// summary is no part of an image and is worked out from the words. Rests on `tree`.
 #![tactic(auto)]
 
 mod fields;

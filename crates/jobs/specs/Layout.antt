@@ -4,7 +4,7 @@ use Rattle.slots.specs.Sets.{Slots}
 use Rattle.slots.specs.Kinds.{plain, State}
 use Rattle.slots.specs.View.{View}
 use Rattle.slots.specs.Jobs.{jobs}
-use Rattle.slots.specs.JobView as Any
+use Rattle.slots.specs.JobView as AnyView
 use Rattle.slots.specs.JobView.{Paired}
 use Rattle.views.specs.Painting.{slot_in}
 use Rattle.views.proofs.Words.{words_view}
@@ -34,7 +34,7 @@ in_struct = record {
 }
 
 abbrev pub jobs_view : View jobs
-jobs_view = Any.jobs_view tree_view reaped_view Jobs in_struct
+jobs_view = AnyView.jobs_view tree_view reaped_view Jobs in_struct
 
 -- which slots are used, and which are reaped
 abbrev pub marks_of : Jobs → State jobs

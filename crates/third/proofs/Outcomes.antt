@@ -1,7 +1,7 @@
 -- What a call on the third level has to show at each way out, from what was said. Assumes nothing.
 use mathlib.Core.Path.{◌≡◌, sym, ap, ◌∙◌}
 use mathlib.Core.Bool.{Bool, true, false}
-use mathlib.Core.List.{List, [], ◌∷◌}
+use mathlib.Core.List.{List}
 use Prim.Native.Nat.{ℕ, ◌+◌, ◌*◌, ◌<◌}
 use native.Mathlib.Omega.{arith}
 use lib.Dec.{eqb, eqb→eq, eqb_refl}
@@ -14,7 +14,7 @@ use Rattle.bits.specs.Range.{bit, count, count_same, same_test}
 use Rattle.slots.specs.Sets.{Slots, all_free, painted}
 use Rattle.slots.specs.Calls.{Call}
 use Rattle.slots.specs.View.{answered, changed}
-use Rattle.slots.proofs.Outcomes as Any
+use Rattle.slots.proofs.Outcomes as AnyView
 use Rattle.views.specs.Painting.{slot_in, painted_words}
 use Rattle.views.specs.Words.{AreWords, words_of, made_words, slots_are, listed, listed_is, listed_agree, painted_are_words}
 use Rattle.views.proofs.Words.{holds_words, painted_words_lem}
@@ -108,7 +108,7 @@ module _ (t : Third) (held : IsThird t) where
   pub carries : (call : Call Slots Reply) (s n : ℕ) (v : Bool) → call.after ≡ painted (slot_of t) s n v
       → (judge : Answer) → answer_says judge ≡ answered third_view t call → (left : Third) → left ≡ left_by judge t (painted_third t s n v)
       → (answer_says judge, left) ≡ changed third_view t call
-  carries call s n v after = Any.carries third_view t call s n v after (painted_third t s n v) (λ sound reply said. painted_third_lem sound s n v)
+  carries call s n v after = AnyView.carries third_view t call s n v after (painted_third t s n v) (λ sound reply said. painted_third_lem sound s n v)
 
 -- ---- the map that is left
 

@@ -8,7 +8,7 @@ use Rattle.answers.specs.declared.Truth.{Truth}
 use Rattle.answers.specs.declared.Number.{Number}
 use Rattle.slots.specs.Sets.{none, all}
 use Rattle.slots.specs.Calls.{capacity}
-use Rattle.slots.specs.Demands as Any
+use Rattle.slots.specs.Demands as AnyView
 use Rattle.third.specs.declared.Third.{Third}
 use Rattle.third.specs.declared.Changed.{Changed}
 use Rattle.third.specs.Layout.{third_of, holding, of_slots, third_view}
@@ -52,28 +52,28 @@ abbrev pub answer_of : Changed → Said Reply
 answer_of r = answer_says r.answer
 
 abbrev pub TakeSays : Third → ℕ → ℕ → Changed → Type 0
-TakeSays t n a r = Any.TakeSays third_view Changed answer_of (λ x. x.map) t n a r
+TakeSays t n a r = AnyView.TakeSays third_view Changed answer_of (λ x. x.map) t n a r
 
 abbrev pub ClaimSays : Third → ℕ → ℕ → Changed → Type 0
-ClaimSays t start n r = Any.ClaimSays third_view Changed answer_of (λ x. x.map) t start n r
+ClaimSays t start n r = AnyView.ClaimSays third_view Changed answer_of (λ x. x.map) t start n r
 
 abbrev pub FreeSays : Third → ℕ → ℕ → Changed → Type 0
-FreeSays t start n r = Any.FreeSays third_view Changed answer_of (λ x. x.map) t start n r
+FreeSays t start n r = AnyView.FreeSays third_view Changed answer_of (λ x. x.map) t start n r
 
 abbrev pub SetSays : Third → ℕ → ℕ → Bool → Changed → Type 0
-SetSays t start n used r = Any.SetSays third_view Changed answer_of (λ x. x.map) t start n used r
+SetSays t start n used r = AnyView.SetSays third_view Changed answer_of (λ x. x.map) t start n used r
 
 abbrev pub NextFreeSays : Third → ℕ → NextFree → Type 0
-NextFreeSays t start r = Any.NextFreeSays third_view Changed answer_of (λ x. x.map) t start (next_free_says r)
+NextFreeSays t start r = AnyView.NextFreeSays third_view Changed answer_of (λ x. x.map) t start (next_free_says r)
 
 abbrev pub GetSays : Third → ℕ → Truth → Type 0
-GetSays t slot r = Any.GetSays third_view Changed answer_of (λ x. x.map) t slot (truth_says r)
+GetSays t slot r = AnyView.GetSays third_view Changed answer_of (λ x. x.map) t slot (truth_says r)
 
 abbrev pub EmptySays : Third → Truth → Type 0
-EmptySays t r = Any.EmptySays third_view Changed answer_of (λ x. x.map) t (truth_says r)
+EmptySays t r = AnyView.EmptySays third_view Changed answer_of (λ x. x.map) t (truth_says r)
 
 abbrev pub UsedSays : Third → Number → Type 0
-UsedSays t r = Any.UsedSays third_view Changed answer_of (λ x. x.map) t (number_says r)
+UsedSays t r = AnyView.UsedSays third_view Changed answer_of (λ x. x.map) t (number_says r)
 
 abbrev pub CapacitySays : ℕ → Type 0
 CapacitySays r = r ≡ capacity 14

@@ -1,5 +1,5 @@
 -- What a call on a tree has to show at each way out, from what was said. Assumes nothing.
-use mathlib.Core.Path.{◌≡◌, sym, ap, ap₂, ◌∙◌}
+use mathlib.Core.Path.{◌≡◌, sym, ap, ◌∙◌}
 use mathlib.Core.Bool.{Bool, true, false, not}
 use mathlib.Core.List.{List, [], ◌∷◌}
 use Prim.Native.Nat.{ℕ, ◌+◌, ◌*◌, ◌^◌, ◌≤◌, ◌<◌}
@@ -16,9 +16,9 @@ use Rattle.bits.specs.Range.{bit, count, count_agree, count_same, same_test}
 use Rattle.slots.specs.Sets.{Slots, Named, all_free, painted}
 use Rattle.slots.specs.Calls.{Call, says}
 use Rattle.slots.specs.View.{answered, changed}
-use Rattle.slots.proofs.Outcomes as Any
-use Rattle.views.specs.Painting.{slot_in, slots_in, painted_words, painted_slots}
-use Rattle.views.specs.Words.{words_of, painted_are_words, slots_are}
+use Rattle.slots.proofs.Outcomes as AnyView
+use Rattle.views.specs.Painting.{slot_in, painted_words, painted_slots}
+use Rattle.views.specs.Words.{painted_are_words, slots_are}
 use Rattle.views.proofs.Words.{painted_words_lem}
 use Rattle.views.specs.Marks.{sixteen_fit, marks_of, touched_marks, touched_right}
 use Rattle.views.specs.Summary.{not_zero, summary_of}
@@ -129,14 +129,14 @@ module _ (t : Tree) (stored : Stored) (its_own : stored ≡ stored_in t) where
     pub carries : ((reply : Reply) → says call ≡ value reply → (s + n ≤ 1024) × ((i : ℕ) → Named s n i → slot_of t i ≡ not v))
         → left ≡ left_by judge (tree_of t.words stored) (painted_tree t.words stored s n v) → (answer_says judge, left) ≡ changed tree_view t call
     carries turns e =
-        Any.carries tree_view t call s n v after (painted_tree t.words (stored_in t) s n v) (λ sound reply said.
+        AnyView.carries tree_view t call s n v after (painted_tree t.words (stored_in t) s n v) (λ sound reply said.
         let passed = turns reply said in painted_tree_lem t held sound s n v passed.0 passed.1) judge told left
         (e ∙ ap (λ (x : Stored). left_by judge (tree_of t.words x) (painted_tree t.words x s n v)) its_own)
 
     -- of set
     pub carries_set : left ≡ left_by judge (tree_of t.words stored) (set_tree t.words stored s n v) → (answer_says judge, left) ≡ changed tree_view t call
     carries_set e =
-        Any.carries tree_view t call s n v after (set_tree t.words (stored_in t) s n v) (λ sound reply said. set_tree_lem t held sound s n v) judge told left
+        AnyView.carries tree_view t call s n v after (set_tree t.words (stored_in t) s n v) (λ sound reply said. set_tree_lem t held sound s n v) judge told left
         (e ∙ ap (λ (x : Stored). left_by judge (tree_of t.words x) (set_tree t.words x s n v)) its_own)
 
 -- ---- the trees that hold no slot, and each

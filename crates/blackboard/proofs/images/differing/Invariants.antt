@@ -1,6 +1,5 @@
 -- `blackboard::images::differing` ends, and stays within both buffers. Assumes nothing.
 use Prim.Native.Nat.{◌-◌, ◌≤◌}
-use borrow.Author.Rules.{rules}
 use Rattle.blackboard.proofs.images.differing.Given as goal
 
 abbrev pub invariant-loop-i : goal.invariant-loop-i

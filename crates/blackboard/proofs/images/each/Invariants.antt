@@ -1,6 +1,5 @@
 -- `blackboard::images::each` ends, and stays within the buffer. Assumes nothing.
 use Prim.Native.Nat.{◌-◌, ◌≤◌}
-use borrow.Author.Rules.{rules}
 use Rattle.blackboard.proofs.images.each.Given as goal
 
 abbrev pub invariant-loop-i : goal.invariant-loop-i

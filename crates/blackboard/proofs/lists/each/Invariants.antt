@@ -1,6 +1,5 @@
 -- `blackboard::lists::each` ends, and asks for no run past the list. Assumes nothing.
 use Prim.Native.Nat.{◌-◌, ◌≤◌}
-use borrow.Author.Rules.{rules}
 use Rattle.blackboard.proofs.lists.each.Given as goal
 
 abbrev pub invariant-loop-i : goal.invariant-loop-i

@@ -1,7 +1,6 @@
 -- `blackboard::lists::unchanged` ends, and stays within the buffer. Assumes nothing.
 use Prim.Native.Nat.{◌-◌, ◌≤◌}
 use lib.ListN.{length}
-use borrow.Author.Rules.{rules}
 use Rattle.blackboard.proofs.lists.unchanged.Given as goal
 
 abbrev pub invariant-loop-i : goal.invariant-loop-i

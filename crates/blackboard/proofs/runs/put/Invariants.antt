@@ -1,6 +1,5 @@
 -- `blackboard::runs::put` ends. Assumes nothing.
 use Prim.Native.Nat.{◌-◌, ◌≤◌}
-use borrow.Author.Rules.{rules}
 use Rattle.blackboard.proofs.runs.put.Given as goal
 
 abbrev pub invariant-loop-slot : goal.invariant-loop-slot

@@ -1,7 +1,6 @@
 -- `blackboard::show::held` ends, and stays within the bytes. Assumes nothing.
 use Prim.Native.Nat.{◌-◌, ◌≤◌}
 use lib.ListN.{length}
-use borrow.Author.Rules.{rules}
 use Rattle.blackboard.proofs.show.held.Given as goal
 
 abbrev pub invariant-loop-i : goal.invariant-loop-i

@@ -1,7 +1,6 @@
 -- `blackboard::show::line` ends, and stays within the lines. Assumes nothing.
 use Prim.Native.Nat.{◌-◌, ◌≤◌}
 use lib.ListN.{length}
-use borrow.Author.Rules.{rules}
 use Rattle.blackboard.proofs.show.line.Given as goal
 
 abbrev pub invariant-loop-i : goal.invariant-loop-i

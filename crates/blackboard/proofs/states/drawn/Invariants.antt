@@ -1,6 +1,5 @@
 -- `blackboard::states::drawn` ends. Assumes nothing.
 use Prim.Native.Nat.{◌-◌, ◌≤◌}
-use borrow.Author.Rules.{rules}
 use Rattle.blackboard.proofs.states.drawn.Given as goal
 
 abbrev pub invariant-loop-slot : goal.invariant-loop-slot

@@ -1,6 +1,5 @@
 -- `blackboard::thirds::groups` ends, and asks for no tree past the last. Assumes nothing.
 use Prim.Native.Nat.{◌-◌, ◌≤◌}
-use borrow.Author.Rules.{rules}
 use Rattle.blackboard.proofs.thirds.groups.Given as goal
 
 abbrev pub invariant-loop-last : goal.invariant-loop-last
