@@ -3,7 +3,7 @@
 Of antt it knows no more than the layout that `rt fmt` makes, and takes this for granted:
 
 - A file is its first comment, its header and its declarations, one after another. The header is the lines that begin
-  with `use`, `mod` or `infix`, perhaps behind `pub`; each is one line.
+  with `use`, `mod` or `infix`, perhaps behind `pub`; an import that is broken goes on up to its closing brace.
 - `module _ (..) where` opens a section, and what stands in it is indented by two spaces more. The section's parameters
   belong to the statement of each declaration in it.
 - A declaration begins at the indentation of its section, with `record` or `data` or with a name and a colon, behind its
@@ -12,10 +12,14 @@ Of antt it knows no more than the layout that `rt fmt` makes, and takes this for
 - A comment is whole lines. It belongs to the declaration right below it; a line of `-- ----` heads a part of the file.
 - A file uses no name of its own above the declaration of that name, and declares no name twice.
 
-Of Rattle it knows `use` lines, structs, enums and the heads of functions, laid out by `rt fmt` too: what a brace at the
-left edge closes, and what ends in the brace that opens a body. A clause of a contract is one line.
+Of Rattle it knows `use` items, structs, enums and the heads of functions, laid out by `rt fmt` too: what a brace at the
+left edge closes, and what ends in the brace that opens a body, which stands alone on its line below a contract. A clause of
+a contract begins its line, with `requires` or `ensures`, a name where it has one, and a brace.
 
-A declaration of specs/ is a DEFINITION or a LAW. A definition is a `record`, a `data`, what is marked `abbrev` or
+A statement stands in specs/, or in a file right in proofs/ that is called as one of specs/, perhaps with `Lemmas` behind:
+what stood there and rests on theorems. Each other file of proofs/ is reasons alone.
+
+A declaration among the statements is a DEFINITION or a LAW. A definition is a `record`, a `data`, what is marked `abbrev` or
 `unfoldable`, and any other whose result is data. All else is a law: its type is a sentence, and its value a proof. Data
 are `Type`, the kit's ℕ, Bool, List and Unit, each type of ours that takes no values, as `Slots`, `Call A` or a struct, and
 products of these. A type that takes values, as `Fits k S n a o`, is a sentence about them.
@@ -100,8 +104,8 @@ class Declaration:
         return f"{self.statement}\n{self.body}"
 
     def names(self):
-        """Its names, as they are written where they are used: `_when_` also as `when`."""
-        parts = [part for name in [self.name, *self.inside] if "_" in name for part in name.split("_") if part]
+        """Its names, as they are written where they are used: `◌when◌` also as `when`."""
+        parts = [part for name in [self.name, *self.inside] if "◌" in name for part in name.split("◌") if part]
         return [self.name, *self.inside, *parts]
 
 
@@ -153,6 +157,9 @@ def comment_text(lines):
 
 
 def comment_above(lines, start):
+    """The comment right above a line, or above the attributes that stand there."""
+    while start > 0 and lines[start - 1].lstrip().startswith("#["):
+        start -= 1
     first = start
     while first > 0 and is_comment(lines[first - 1]):
         first -= 1
@@ -164,31 +171,71 @@ def first_comment(lines):
     return comment_text(lines[:stop])
 
 
-IMPORT = re.compile(r"(?:pub |ghost )?use (?P<module>[^\s{;]+?)(?:\.\{(?P<names>.*)\}| as (?P<alias>\S+?))?;?")
+IMPORT = re.compile(r"(?:pub |ghost )*use (?P<module>[^\s{;]+?)(?:\.\{(?P<names>.*)\}| as (?P<alias>\S+?))?;?")
+
+
+def divided_at_commas(text):
+    """The parts of a list between braces, where what stands in inner braces is no division."""
+    parts, depth = [""], 0
+    for sign in text:
+        depth += {"{": 1, "}": -1}.get(sign, 0)
+        if sign == "," and depth == 0:
+            parts.append("")
+        else:
+            parts[-1] += sign
+    return [part.strip() for part in parts if part.strip()]
 
 
 def read_import(path, line):
+    """What an import of antt brings, also where it stands in a file of Rattle, behind `ghost`."""
     found = IMPORT.fullmatch(line)
     if found is None:
         raise Wrong(f"{path}: tools/sources.py does not know this form of an import: {line}")
     names = {}
-    for item in filter(None, (found["names"] or "").split(", ")):
+    for item in divided_at_commas(found["names"] or ""):
         name, _, alias = item.partition(" as ")
         names[alias or name] = name
     return Import(found["module"], names, found["alias"] or "")
 
 
+def read_uses(text):
+    """What a `use` of Rattle brings: an import for each path, as `answers::Refusal`, with the name that it has here."""
+    path, brace, rest = text.partition("{")
+    if brace:
+        inner = divided_at_commas(rest.strip().removesuffix("}"))
+        return [one for part in inner for one in read_uses(path + part)]
+    path, _, alias = path.strip().partition(" as ")
+    return [Import(path.removesuffix("::self"), {}, alias)]
+
+
+def items(lines):
+    """The imports of a file, each in one line: one that is broken goes on up to its closing brace."""
+    waiting = ""
+    for line in lines:
+        if waiting or re.match(r"(?:pub |ghost )*use ", line):
+            waiting = f"{waiting} {line.strip()}".strip()
+            if waiting.count("{") == waiting.count("}"):
+                yield re.sub(r"\{ | ?,? \}", lambda found: found[0].strip(" ,"), waiting)
+                waiting = ""
+
+
+def read_item(path, line):
+    if path.endswith(".rt") and not line.startswith("ghost "):
+        return read_uses(line.removeprefix("pub ").removeprefix("use ").removesuffix(";"))
+    return [read_import(path, line)]
+
+
 def source_of(path, lines, declarations):
     modules = [match[1] for match in map(re.compile(r"(?:pub )?mod (\w+)").match, lines) if match]
-    imports = [read_import(path, line) for line in lines if re.match(r"(?:pub |ghost )?use ", line)]
+    imports = [one for line in items(lines) for one in read_item(path, line)]
     return Source(path, first_comment(lines), modules, imports, declarations)
 
 
 # ---- a file of antt
 
 
-HEADER = re.compile(r"(?:pub )?(?:use|mod) |infix[lr]? ")
-MARKS = r"(?P<marks>(?:(?:unfoldable|abbrev|axiom|pub) )*)"
+HEADER = re.compile(r"(?:pub )?(?:use|mod) |infix[lr]? |open ")
+MARKS = r"(?P<marks>(?:(?:unfoldable|abbrev|opaque|axiom|pub) )*)"
 SIGNATURE = re.compile(MARKS + r"(?P<name>[^\s(){}]+)(?: \{[^}:]*\})? :(?: |$)")
 TYPE = re.compile(MARKS + r"(?P<form>record|data) (?P<name>[^\s(){}]+)")
 
@@ -221,13 +268,15 @@ def opening_end(path, lines, start):
 
 def spans(path, lines, first, stop, sections):
     """Where each declaration begins and ends, and the openings of the sections that it stands in."""
-    found = []
+    found, broken = [], False
     for start, end in blocks(lines, first, stop, 2 * len(sections)):
-        if lines[start].lstrip().startswith("module "):
+        if broken and lines[start].strip() == "}":
+            broken = False
+        elif lines[start].lstrip().startswith("module "):
             inner = opening_end(path, lines, start)
             found += spans(path, lines, inner, end, [*sections, lines[start:inner]])
-        elif is_comment(lines[start]) or HEADER.match(lines[start]):
-            continue
+        elif is_comment(lines[start]) or HEADER.match(lines[start].lstrip()):
+            broken = lines[end - 1].endswith(("{", ","))
         elif beginning(lines[start]):
             found.append((start, end, sections))
         elif found and found[-1][2] == sections:
@@ -288,7 +337,8 @@ def read_antt(path, text):
 
 
 RATTLE_TYPE = re.compile(r"(?P<pub>pub )?(?P<form>struct|enum) (?P<name>\w+)")
-FUNCTION = re.compile(r'(?P<indent> *)(?P<pub>pub )?(?:pub\(crate\) )?(?:extern "C" )?fn (?P<name>\w+)')
+FUNCTION = re.compile(r'(?P<indent> *)(?P<pub>pub )?(?:pub\(crate\) )?(?:const )?(?:unsafe )?(?:extern "C" )?fn (?P<name>\w+)')
+CLAUSE = re.compile(r"\s*(?:requires|ensures|ghost)\b")
 CONSTANT = re.compile(r" *(?:pub(?:\(crate\))? )?const (?P<name>\w+)")
 
 
@@ -355,12 +405,14 @@ def rattle_type(path, lines, start):
 
 
 def rattle_function(path, lines, start, owner):
-    """A function's head ends at the brace that opens its body."""
+    """A function's head ends at the brace that opens its body: it stands alone below a contract, else it ends a line."""
     begun, stop = FUNCTION.match(lines[start].strip()), start
-    while not lines[stop].endswith("{"):
+    alone, told = " " * indent_of(lines[start]) + "{", False
+    while not (lines[stop] == alone or (lines[stop].endswith("{") and not told)):
         stop += 1
-    head = "\n".join(lines[start : stop + 1]).removesuffix("{")
-    signature, *contract = re.split(r"\n(?=\s*(?:requires|ensures) )", head)
+        told = told or bool(CLAUSE.match(lines[stop]))
+    head = "\n".join(lines[start : stop + 1]).removesuffix("{").rstrip()
+    signature, *contract = re.split(r"\n(?=\s*(?:requires|ensures)\b)", head)
     name = "::".join([*module_of(path), *owner, begun["name"]])
     return Function(path, name, bool(begun["pub"]), signature, "\n".join(contract))
 
@@ -447,10 +499,11 @@ class Crates:
     def __init__(self, texts):
         readers = {"src": read_rattle, "specs": read_antt, "proofs": read_antt}
         self.texts = texts
+        self.crates = {path.split("/")[1] for path in texts}
         self.sources = {path: readers[path.split("/")[2]](path, text) for path, text in texts.items()}
         self.types = {(*module_of(one.path), one.name): one for one in self.declared_in("src")}
-        self.headers = {source.path: self.header(source) for place in ("src", "specs") for source in self.of(place)}
-        for one in self.declared_in("specs"):
+        self.headers = {source.path: self.header(source) for source in [*self.of("src"), *self.stated()]}
+        for one in self.statements():
             one.kind = self.kind_of(one)
 
     def of(self, place):
@@ -459,35 +512,66 @@ class Crates:
     def declared_in(self, place):
         return [one for source in self.of(place) for one in source.declarations]
 
+    def is_stated(self, source):
+        crate, place, *inner = source.path.split("/")[1:]
+        if place != "proofs" or len(inner) != 1:
+            return place == "specs"
+        stem = inner[0].removesuffix(".antt")
+        beside = [f"crates/{crate}/specs/{name}.antt" for name in (stem, stem.removesuffix("Lemmas"))]
+        return stem != "Lib" and any(path in self.sources for path in beside)
+
+    def stated(self):
+        """The files of statements."""
+        return [source for source in self.sources.values() if self.is_stated(source)]
+
+    def statements(self):
+        """Their declarations."""
+        return [one for source in self.stated() for one in source.declarations]
+
+    def laws(self):
+        return [one for one in self.statements() if one.kind == LAW]
+
     def libraries(self):
         """The sources in src/ of the crates that are libraries."""
         return [source for source in self.of("src") if f"crates/{source.crate}/src/lib.rt" in self.sources]
 
     # -- imports
 
+    def is_ours(self, module):
+        """Whether a module is of a crate of this repository and written there: what Rattle makes of contracts is not."""
+        parts = module.split(".")
+        return parts[0] == "Rattle" and parts[1] in self.crates and parts[2:4] != ["specs", "contracts"]
+
     def behind(self, module):
-        """The declarations behind the name of a module of specs/, or None. Rattle·slots.specs.Sets is a file, and
-        so is Rattle·slots·specs.specs.Sets; Rattle·tree.specs.declared.Tree is made from a struct or an enum."""
-        crate, *parts = re.sub(r"^Rattle·(\w+)(?:·\w+)?\.", r"\1.", module).split(".")
+        """The declarations behind the name of a module of specs/, or None. Rattle.slots.specs.Sets is a file;
+        Rattle.tree.specs.declared.Tree is made from a struct or an enum."""
+        if not self.is_ours(module):
+            return None
+        _, crate, *parts = module.split(".")
+        if parts[:1] == ["proofs"]:
+            source = self.sources.get(f"crates/{crate}/{'/'.join(parts)}.antt")
+            return source.declarations if source else None
         if parts[:2] == ["specs", "declared"]:
-            found = self.types.get((crate, *(part for part in parts[2:] if part != "the-variants")))
+            found = self.types.get((crate, *(part for part in parts[2:] if part != "TheVariants")))
             return [found] if found else None
         source = self.sources.get(f"crates/{crate}/{'/'.join(parts)}.antt")
         return source.declarations if source and source.place == "specs" else None
 
     def from_antt(self, source, one):
         """What an import of antt brings: each name with its declaration, or with None where it is the kit's."""
-        if not one.module.startswith("Rattle·"):
+        if not self.is_ours(one.module):
             return {name: None for name in one.names}
         declarations = self.behind(one.module)
-        if declarations is None:
+        # below proofs/ what Rattle makes of the code has modules too, as the goals
+        is_strict = source.place != "proofs" or one.module.split(".")[2] == "specs"
+        if declarations is None and is_strict:
             raise Wrong(f"{source.path} imports {one.module}, and specs/ has no such file, nor src/ such a type")
-        known = {name: declared for declared in declarations for name in [declared.name, *declared.inside]}
+        known = {name: declared for declared in declarations or [] for name in [declared.name, *declared.inside]}
         for name in one.names.values():
-            if name not in known:
+            if name not in known and is_strict:
                 raise Wrong(f"{source.path} imports '{name}' from {one.module}, which declares no such name")
         if one.names:
-            return {here: known[there] for here, there in one.names.items()}
+            return {here: known.get(there) for here, there in one.names.items()}
         called = one.alias or one.module.rpartition(".")[2]
         return {f"{called}.{name}": declared for name, declared in known.items()}
 
@@ -501,12 +585,13 @@ class Crates:
         return {one.alias or parts[-1]: found} if found else {}
 
     def header(self, source):
-        """What each name means that a file imports; an operator's name is also known by its parts."""
+        """What each name means that a file imports; an operator's name, as `◌≡◌`, is also known by its parts."""
         known = {}
         for one in source.imports:
-            brought = self.from_rattle(source, one) if "::" in one.module else self.from_antt(source, one)
+            is_path = source.place == "src" and not re.match(r"[\w.]+\.", one.module)
+            brought = self.from_rattle(source, one) if is_path else self.from_antt(source, one)
             for name, declared in brought.items():
-                for spelled in [name, *filter(None, name.split("_"))]:
+                for spelled in [name, *(filter(None, name.split("◌")) if "◌" in name else [])]:
                     known[spelled] = declared or known.get(spelled)
         return known
 

@@ -1,7 +1,7 @@
 -- What is known where some checks have been judged by a call of their own: a refusal is the refusal of the whole, and where there is none the checks
 -- that follow decide. Assumes nothing.
 use mathlib.Core.Path.{◌≡◌, refl, sym, ap, ◌∙◌}
-use mathlib.Core.List.{List, [], ◌∷◌, ◌++◌}
+use mathlib.Core.List.{List, ◌++◌}
 use Prim.Native.Nat.{ℕ}
 use Rattle.answers.specs.Said.{Said, value, refused, Check, judged, on_value, judged_first, judged_then}
 use Rattle.answers.specs.Refusals.{number_of}

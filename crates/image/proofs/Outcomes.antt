@@ -1,12 +1,12 @@
 -- What the calls of this crate come to, from what the tree's calls came to. Assumes nothing.
 use mathlib.Core.Path.{◌≡◌, refl, sym, ap, subst, ◌∙◌}
-use mathlib.Core.Bool.{Bool, true, false, not}
+use mathlib.Core.Bool.{Bool, true, false}
 use mathlib.Core.List.{List}
 use Prim.Native.Nat.{ℕ, ◌^◌, ◌<◌}
 use native.Mathlib.Omega.{arith}
 use lib.IntN.{ℤ, negsuc}
 use lib.ListN.{length}
-use borrow.Author.Tests.{eq-eqb, ne_eqb, not-true, not-false}
+use borrow.Author.Tests.{eq-eqb, ne_eqb}
 use Rattle.answers.specs.Said.{value, refused, judged, on_value, leaving}
 use Rattle.answers.specs.Refusals.{number_of}
 use Rattle.answers.specs.Answers.{Reply, at, ok, answer_says, number_says}
@@ -15,7 +15,7 @@ use Rattle.answers.specs.declared.Answer.TheVariants.{At, Done, Refused}
 use Rattle.answers.specs.declared.Number.{Number}
 use Rattle.answers.specs.declared.Number.TheVariants.{Is}
 use Rattle.answers.specs.declared.Refusal.{Refusal}
-use Rattle.bits.specs.Range.{count, count_most}
+use Rattle.bits.specs.Range.{count_most}
 use Rattle.slots.specs.Sets.{Slots, none}
 use Rattle.slots.specs.Calls.{Call, take_call, free_call}
 use Rattle.slots.specs.Promises.{free_faults}

@@ -4,7 +4,6 @@ use mathlib.Core.Bool.{Bool, true, false, not, ◌&&◌, false≢true}
 use mathlib.Core.List.{List, [], ◌∷◌}
 use Prim.Native.Nat.{ℕ}
 use native.Mathlib.Omega.{arith}
-use borrow.Author.Tests.{not-true, not-false}
 use Rattle.answers.specs.Faults.{finds_both}
 use Rattle.answers.specs.Said.{Said, value, refused, ◌when◌, judged, leaving, on_value, judged_on_value, value≢refused, refused_injective}
 use Rattle.answers.specs.Refusals.{number_of}
@@ -204,7 +203,7 @@ module _ (tree : Tree) (reaped : List ℕ) where
         let sound = (jobs_view.finds_sound j).0 (rw is_sound_lem tt) in
         let named = record_passed 10 (marks_of j) s n reply (sym (found_sound jobs_view j _ is_sound_lem) ∙ answer) in
         let used : AllUsed (slot_of tree) s n = λ i h. sound.reaped_used_lem i (omega (arith, named.0.1, h.1)) ((reaped_means (marks_of j) i).1 (named.1 i h)) in
-        let tree-said = (free_promise 10 (slot_of tree) s n).1 (named.0, used) in
-        let tree-left = ap (λ out. out.1) (freed ∙ sound_accepted tree_view tree (free_call 10 (slot_of tree) s n) ok sound.map_sound tree-said) in
-        (λ i. (value reply, jobs_of (tree-left i) (painted_beside false i)))
+        let tree_said = (free_promise 10 (slot_of tree) s n).1 (named.0, used) in
+        let tree_left = ap (λ out. out.1) (freed ∙ sound_accepted tree_view tree (free_call 10 (slot_of tree) s n) ok sound.map_sound tree_said) in
+        (λ i. (value reply, jobs_of (tree_left i) (painted_beside false i)))
         ∙ sym (says_accepted jobs_view j _ reply answer)

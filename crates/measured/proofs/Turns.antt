@@ -43,10 +43,10 @@ module _ {L : View plain} {first : L.Map} {calls : List Asked} where
   pub free_turn : {m : L.Map} (starts : List ℕ) (n i : ℕ) (left : L.Map) → i < length starts → Ends L first calls m (frees_of (drop i starts) n)
       → left ≡ next L m (free (get_or starts i 0) n) → Ends L first calls left (frees_of (drop (i + 1) starts) n)
   free_turn {m} starts n i left more ends is =
-      let more-by-one : i + 1 ≡ suc i = omega arith in
+      let more_by_one : i + 1 ≡ suc i = omega arith in
       let from : Ends L first calls m (free (get_or starts i 0) n ∷ frees_of (drop (suc i) starts) n) =
       subst (λ (l : List ℕ). Ends L first calls m (frees_of l n)) (drop-cons starts i 0 more) ends in
-      rw more-by-one (turned left from is)
+      rw more_by_one (turned left from is)
 
   -- where none is left, the map is the last one
   pub none_to_take : {m : L.Map} (n a times : ℕ) → times ≤ 0 → Ends L first calls m (takes_of n a times) → Ends L first calls m []

@@ -31,7 +31,7 @@ module _ (bytes : List ℕ) where
   output_fits =
       either (ltb 32768 (length bytes))
       (λ long. rw (output_big bytes (ltb-true _ _ long)) (omega arith))
-      (λ limit. let short-enough = report_fits bytes (ltb-false _ _ limit) in rw (output_report bytes (ltb-false _ _ limit)) (omega (arith, short-enough)))
+      (λ limit. let short_enough = report_fits bytes (ltb-false _ _ limit) in rw (output_report bytes (ltb-false _ _ limit)) (omega (arith, short_enough)))
 
 -- ---- of the runner, which starts from the empty tree
 

@@ -29,8 +29,8 @@ module _ (w v a : ℕ) (held : a < 2 ^ w) where
       given said =
           let accepted = (align_up_faults.accepts r).0 said in
           let p = (power_else w v a held) (λ n. accepted.0 8 (inl (refl, n))) in
-          let none-fits = finds_none_fits (power_pos a p) in
-          rw (← accepted.1) (p, up_least a v (power_pos a p), lt_of_not-le (λ l. accepted.0 9 (inr (inl (refl, none-fits.0 (le→leb _ _ l))))))
+          let none_fits = finds_none_fits (power_pos a p) in
+          rw (← accepted.1) (p, up_least a v (power_pos a p), lt_of_not-le (λ l. accepted.0 9 (inr (inl (refl, none_fits.0 (le→leb _ _ l))))))
 
       giving : PowerOfTwo a × LeastNotBelow a v r × (r < 2 ^ w) → aligned_up w v a ≡ value r
       giving g =

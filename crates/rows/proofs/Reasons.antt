@@ -387,8 +387,8 @@ module _ (words fulls : List ℕ) (from : ℕ) where
   pub seen_here : from < 16384 → slot_in words from ≡ false → from ≡ free_from 14 (seen_from words fulls from) from
   unfolding free_from
   seen_here near free =
-      let within-reach : from ≤ 16384 = le_of_lt near in
-      sym (rw (min-eq_left within-reach)
+      let within_reach : from ≤ 16384 = le_of_lt near in
+      sym (rw (min-eq_left within_reach)
       (least_is (λ i. not (seen_from words fulls from i)) from (16384 - from) from (le_refl from) (omega arith)
       (ap (λ (b : Bool). not (elim b [ true ↦ slot_in words from | false ↦ slot_in (filled words fulls) from ])) (eq-eqb from from refl) ∙ ap not free)
       (λ p l b. absurd (omega arith))))

@@ -74,9 +74,9 @@ module _ {bytes before : List ℕ} {map : Tree} {next end : ℕ} {report : List 
   has_room line rest e =
       let fits = report_fits bytes running.limit in
       let room = running.room in
-      let at-end = running.ends in
+      let at_end = running.ends in
       let parts = ap length e ∙ length-append line rest in
-      omega (arith, fits, whole, parts, report_length, room, at-end)
+      omega (arith, fits, whole, parts, report_length, room, at_end)
 
   -- and makes it longer
   puts : (line rest : List ℕ) → report_from map (drop next bytes) ≡ line ++ rest → (after : List ℕ) → after ≡ put_at report end line
@@ -87,7 +87,7 @@ module _ {bytes before : List ℕ} {map : Tree} {next end : ℕ} {report : List 
   )
 
   longer : (line : List ℕ) (last : ℕ) → last ≡ end + length line → last ≡ length (done ++ line)
-  longer line last e = let at-end = running.ends in let both = length-append done line in omega (arith, e, at-end, both)
+  longer line last e = let at_end = running.ends in let both = length-append done line in omega (arith, e, at_end, both)
 
   -- ---- a turn
 
@@ -121,11 +121,11 @@ module _ {bytes before : List ℕ} {map : Tree} {next end : ℕ} {report : List 
 
     pub turns : (last : ℕ) (after : List ℕ) → last ≡ end + length line → after ≡ put_at report end line → Running bytes before step.map piece.next last after
     turns last after ends put =
-        let longer-by = puts line rest line_first after put in record {
+        let longer_by = puts line rest line_first after put in record {
           done = done ++ line;
           ends = longer line last ends;
-          held = longer-by.0;
-          left = longer-by.1;
+          held = longer_by.0;
+          left = longer_by.1;
           map_left = sym rest_left ∙ running.map_left;
           inside = reads.inside;
           sound = rw (ap (λ o. o.1) steps) (carried_sound map (field_says piece.field) running.sound);
@@ -160,9 +160,9 @@ module _ {bytes before : List ℕ} {map : Tree} {next end : ℕ} {report : List 
 
       pub finishes : (last : ℕ) (after : List ℕ) → last ≡ end + length final → after ≡ put_at report end final → (value last, after, map) ≡ ran_map bytes before
       finishes last after ends put =
-          let longer-by = puts final [] last_first after put in
-          let all : done ++ final ≡ report_of bytes = sym (longer-by.1 ∙ append-nil (done ++ final)) in
-          (λ i. (value (longer final last ends i), longer-by.0 i, stands i))
+          let longer_by = puts final [] last_first after put in
+          let all : done ++ final ≡ report_of bytes = sym (longer_by.1 ∙ append-nil (done ++ final)) in
+          (λ i. (value (longer final last ends i), longer_by.0 i, stands i))
           ∙ (λ i. (value (length (all i)), over (all i) before, left_of bytes))
           ∙ sym (map_accepted bytes before running.limit running.room)
         where

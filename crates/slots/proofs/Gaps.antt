@@ -73,9 +73,9 @@ module _ (k : ℕ) (v : Bool) (S : Slots) where
   pub some_longest : (i : ℕ) → i < 2 ^ k → having v S i ≡ true → 0 < (longest_of k v S).length
   unfolding longest_of
   some_longest i l has =
-      let in-run = slot_listed k v S i l has in
-      let held = in-run.2 in
-      omega (arith, held, ltb-false (longest_of k v S).length in-run.0.length (best_unbeaten longer longer_order (run 0 0) all in-run.0 (inr in-run.1)))
+      let in_run = slot_listed k v S i l has in
+      let held = in_run.2 in
+      omega (arith, held, ltb-false (longest_of k v S).length in_run.0.length (best_unbeaten longer longer_order (run 0 0) all in_run.0 (inr in_run.1)))
 
 module _ (k : ℕ) (S : Slots) where
   -- not full: one slot is free

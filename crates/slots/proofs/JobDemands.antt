@@ -67,24 +67,24 @@ module _ (B R : View plain) (M : Type 0) (P : Paired B R M) (Out : Type 0) (said
 
     sound_state : L.Sound m → OfSound B R M P Out said left m
     sound_state sound =
-        let as-the-marks : (c : Call (State jobs) Reply) (r : Out) → Left m c r → said r ≡ says c = λ c r outcome. Outcome.as_the_state L Out said left m c r outcome sound in
+        let as_the_marks : (c : Call (State jobs) Reply) (r : Out) → Left m c r → said r ≡ says c = λ c r outcome. Outcome.as_the_state L Out said left m c r outcome sound in
         record {
           stays_sound = λ held c r outcome. Outcome.stays_sound L Out said left m _ r outcome sound (keeps m (L.right m sound held) c);
-          answers_as_the_marks = as-the-marks;
+          answers_as_the_marks = as_the_marks;
           leaves_the_marks = λ held c r outcome. Outcome.the_state_left L Out said left m c r outcome sound held;
-          start_grants = λ n a r outcome o. rw (as-the-marks _ r outcome ∙ start_says B.k (X m) n a) (Promises'.take_promise B.k (used_in (X m)) n a o);
+          start_grants = λ n a r outcome o. rw (as_the_marks _ r outcome ∙ start_says B.k (X m) n a) (Promises'.take_promise B.k (used_in (X m)) n a o);
           start_runs = λ held n a r outcome o e.
-              let told = sym (as-the-marks _ r outcome) ∙ e in
+              let told = sym (as_the_marks _ r outcome) ∙ e in
               moved m sound _ r outcome (at o) told o n free running (start_moves B.k (X m) (L.right m sound held) n a o told);
           start_refused_for_room = λ n a r outcome pos small few.
-              rw (as-the-marks _ r outcome ∙ start_says B.k (X m) n a) (Promises'.take_no_room B.k (used_in (X m)) n a pos small few);
-          reap_accepts = λ s n r outcome. rw (as-the-marks _ r outcome) (reap_promise B.k (X m) s n);
+              rw (as_the_marks _ r outcome ∙ start_says B.k (X m) n a) (Promises'.take_no_room B.k (used_in (X m)) n a pos small few);
+          reap_accepts = λ s n r outcome. rw (as_the_marks _ r outcome) (reap_promise B.k (X m) s n);
           reap_reaps = λ held s n r outcome e.
-              let told = sym (as-the-marks _ r outcome) ∙ e in
+              let told = sym (as_the_marks _ r outcome) ∙ e in
               moved m sound _ r outcome ok told s n running reaped (reap_moves B.k (X m) s n ok told);
-          record_accepts = λ s n r outcome. rw (as-the-marks _ r outcome) (record_promise B.k (X m) s n);
+          record_accepts = λ s n r outcome. rw (as_the_marks _ r outcome) (record_promise B.k (X m) s n);
           record_frees = λ held s n r outcome e.
-              let told = sym (as-the-marks _ r outcome) ∙ e in
+              let told = sym (as_the_marks _ r outcome) ∙ e in
               moved m sound _ r outcome ok told s n reaped free (record_moves B.k (X m) s n ok told);
           state_tells = λ i x outcome is. rw (outcome ∙ sound_answers L m _ sound) (state_promise B.k (X m) i is);
           empty_tells = λ x outcome b. rw (outcome ∙ sound_answers L m _ sound) (Promises.empty_promise B.k (used_in (X m)) b);

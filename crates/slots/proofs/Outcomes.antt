@@ -1,8 +1,7 @@
 -- What a call on a map has to show at each way out, over any view: check 1 in front, and then a judged call carried out. Assumes nothing.
 use mathlib.Core.Path.{◌≡◌, refl, sym, ap, ◌∙◌}
-use mathlib.Core.Bool.{Bool, true, false, not}
+use mathlib.Core.Bool.{Bool, true, false}
 use Prim.Native.Nat.{ℕ}
-use borrow.Author.Tests.{not-true, not-false}
 use Rattle.answers.specs.Said.{value, refused}
 use Rattle.answers.specs.Refusals.{number_of}
 use Rattle.answers.specs.Answers.{Reply, at, ok, answer_says, left_by}

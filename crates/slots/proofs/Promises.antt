@@ -59,13 +59,13 @@ module _ (k : ℕ) (S : Slots) (n a : ℕ) where
   take_promise o = (
     λ said.
         let accepted = (take_decided.accepts (at o)).0 said in
-        let no-fault = accepted.0 in
+        let no_fault = accepted.0 in
         let same : lowest k S n a ≡ o = at_injective accepted.1 in
-        let pos : 0 < n = pos_of_ne-zero (λ e. no-fault 2 (inl (refl, e))) in (
+        let pos : 0 < n = pos_of_ne-zero (λ e. no_fault 2 (inl (refl, e))) in (
           pos,
-          lt_of_not-le (λ l. no-fault 3 (inr (inl (refl, l)))),
-          le_of_not_lt (λ l. no-fault 4 (inr (inr (inl (refl, l))))),
-          rw same at (lowest_fits k S n a (found pos (λ none. no-fault 7 (inr (inr (inr (inl (refl, none)))))))),
+          lt_of_not-le (λ l. no_fault 3 (inr (inl (refl, l)))),
+          le_of_not_lt (λ l. no_fault 4 (inr (inr (inl (refl, l))))),
+          rw same at (lowest_fits k S n a (found pos (λ none. no_fault 7 (inr (inr (inr (inl (refl, none)))))))),
         ),
     λ g.
         let there = found g.0 (λ none. none o g.3.fits) in

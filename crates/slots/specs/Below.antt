@@ -1,16 +1,15 @@
 -- Demand 3 of the map below jobs, by citing: what a series on jobs leaves below is what a series of takes and frees leaves there, and their record is that of
 -- the grants and the recordings. Over any capacity, any map below and any types of outcomes. Rests on `JobDemands`.
-use Rattle.std.specs.Prelude.{◌≡◌, true, false, List, [], ◌∷◌}
+use Rattle.std.specs.Prelude.{true, false, List, [], ◌∷◌}
 use Rattle.answers.specs.Said.{Said, value, refused}
 use Rattle.answers.specs.Answers.{Reply}
 use Rattle.slots.specs.Kinds.{plain}
 use Rattle.slots.specs.View.{View}
-use Rattle.slots.specs.Outcome as Outcome
 use Rattle.slots.specs.Records.{Entry}
 use Rattle.slots.specs.Plain as Plain
 use Rattle.slots.specs.Plain.{take, free}
 use Rattle.slots.specs.JobView.{Paired}
-use Rattle.slots.specs.Turns.{Asked, start, reap, record_status, call_of, Event, granted, reaping, recording}
+use Rattle.slots.specs.Turns.{Asked, start, reap, record_status, Event, granted, reaping, recording}
 
 -- what reaches the map below: an accepted start is a take there, and an accepted recording a free
 abbrev pub reaching : Asked → Said Reply → List Plain.Asked → List Plain.Asked

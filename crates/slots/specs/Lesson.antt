@@ -2,7 +2,6 @@
 -- trainee does who frees at reaping. Rests on `Series`, `JobView` and `Turns`.
 use Rattle.std.specs.Prelude.{◌≡◌, refl, Bool, true, false, ℕ, ◌^◌, ◌<◌}
 use Rattle.std.proofs.Common.{arith}
-use mathlib.Core.List.Perm
 use mathlib.Core.List.{List, [], ◌∷◌, Perm}
 use Rattle.answers.specs.Said.{Said, value, refused, judged, leaving}
 use Rattle.answers.specs.Answers.{Reply, at, ok}

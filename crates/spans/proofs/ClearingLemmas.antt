@@ -40,6 +40,6 @@ module _ (bytes : List ℕ) (s e : ℕ) where
   pub clear_accepted : (cleared bytes s e).0 ≡ value tt → OnlyZeroed bytes (cleared bytes s e).1 s e
   unfolding cleared
   clear_accepted said =
-      let no-fault = (((clear_faults bytes s e).accepts tt).0 said).0 in
+      let no_fault = (((clear_faults bytes s e).accepts tt).0 said).0 in
       rw (leaving_value (λ _. zeroed bytes s e) bytes _ tt said)
-      (only_zeroed (le_of_not_lt (λ l. no-fault 10 (inr (inl (refl, l))))) (le_of_not_lt (λ l. no-fault 4 (inl (refl, l)))))
+      (only_zeroed (le_of_not_lt (λ l. no_fault 10 (inr (inl (refl, l))))) (le_of_not_lt (λ l. no_fault 4 (inl (refl, l)))))

@@ -1,5 +1,5 @@
 -- What a call on a tree has to show at each way out, from what was said. Assumes nothing.
-use mathlib.Core.Path.{◌≡◌, sym, ap, ap₂, ◌∙◌}
+use mathlib.Core.Path.{◌≡◌, sym, ap, ◌∙◌}
 use mathlib.Core.Bool.{Bool, true, false, not}
 use mathlib.Core.List.{List, [], ◌∷◌}
 use Prim.Native.Nat.{ℕ, ◌+◌, ◌*◌, ◌^◌, ◌≤◌, ◌<◌}
@@ -17,8 +17,8 @@ use Rattle.slots.specs.Sets.{Slots, Named, all_free, painted}
 use Rattle.slots.specs.Calls.{Call, says}
 use Rattle.slots.specs.View.{answered, changed}
 use Rattle.slots.proofs.Outcomes as Any
-use Rattle.views.specs.Painting.{slot_in, slots_in, painted_words, painted_slots}
-use Rattle.views.specs.Words.{words_of, painted_are_words, slots_are}
+use Rattle.views.specs.Painting.{slot_in, painted_words, painted_slots}
+use Rattle.views.specs.Words.{painted_are_words, slots_are}
 use Rattle.views.proofs.Words.{painted_words_lem}
 use Rattle.views.specs.Marks.{sixteen_fit, marks_of, touched_marks, touched_right}
 use Rattle.views.specs.Summary.{not_zero, summary_of}

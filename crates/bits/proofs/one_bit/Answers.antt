@@ -5,7 +5,6 @@ use Prim.Native.Nat.{◌^◌}
 use native.Mathlib.Nat.{one-mul}
 use native.Mathlib.Omega.{arith}
 use lib.Pow.{shl_exact}
-use borrow.Author.Rules.{rules}
 use borrow.Author.Tests.{lt-ltb, le-ltb}
 use Rattle.answers.specs.Said.{value, judged}
 use Rattle.bits.specs.Masks.{one_bit}

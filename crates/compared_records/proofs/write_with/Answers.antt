@@ -1,7 +1,7 @@
 -- `compared_records::write_with` is safe: the lines have room, and are no longer than they can be. Assumes nothing.
 use Rattle.std.proofs.Common.{sym, ap, length-take-le}
 use Rattle.answers.specs.Answers.{number_says}
-use Rattle.gap_report.specs.Demands.{write_inside, write_fits}
+use Rattle.gap_report.specs.Demands.{write_inside}
 use Rattle.compared_records.proofs.write_with.Goals as goal
 
 pub slice_bounds-lines-end : goal.slice_bounds-lines-end

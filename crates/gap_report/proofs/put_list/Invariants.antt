@@ -1,7 +1,6 @@
 -- `gap_report::put_list` meets its contract: a line for each run, one after the other (`Putting`). Assumes nothing.
 use Prim.Native.Nat.{◌-◌}
-use borrow.Author.Rules.{rules}
-use Rattle.gap_report.proofs.Putting.{Putting, putting_first, putting_on, putting_last}
+use Rattle.gap_report.proofs.Putting.{Putting}
 use Rattle.gap_report.proofs.put_list.Given as goal
 
 abbrev pub invariant-loop-j : goal.invariant-loop-j

@@ -1,6 +1,5 @@
 -- `gap_report::put_longest` meets its contract: a run's line, or that there is none. Assumes nothing.
 use mathlib.Core.Path.{sym, ap, ◌∙◌}
-use borrow.Author.Rules.{rules}
 use Rattle.answers.specs.Said.{Said}
 use Rattle.answers.specs.Answers.{longest_run_says}
 use Rattle.answers.specs.declared.Run.{Run}
@@ -10,19 +9,13 @@ use Rattle.gap_report.proofs.put_longest.Goals as goal
 
 pub returns-in-Is : goal.returns-in-Is
 returns-in-Is c =
-    let put = c in
-    let told = put in
-    let found = told in
-    let asked = found.args in
-    put.put_run.ensures
-    ∙ ap (λ (said : Said Run). put_all (asked.at, asked.text.now) (longest_line said)) (sym (ap longest_run_says told.in-Is.is) ∙ found.longest_free-found.ensures)
+    let asked = c.args in
+    c.put_run.ensures
+    ∙ ap (λ (said : Said Run). put_all (asked.at, asked.text.now) (longest_line said)) (sym (ap longest_run_says c.in-Is.is) ∙ c.longest_free-found.ensures)
 
 pub returns-in-Refused : goal.returns-in-Refused
 unfolding put_all
 returns-in-Refused c =
-    let put = c in
-    let told = put in
-    let found = told in
-    let asked = found.args in
-    put.put.ensures
-    ∙ ap (λ (said : Said Run). put_all (asked.at, asked.text.now) (longest_line said)) (sym (ap longest_run_says told.in-Refused.is) ∙ found.longest_free-found.ensures)
+    let asked = c.args in
+    c.put.ensures
+    ∙ ap (λ (said : Said Run). put_all (asked.at, asked.text.now) (longest_line said)) (sym (ap longest_run_says c.in-Refused.is) ∙ c.longest_free-found.ensures)

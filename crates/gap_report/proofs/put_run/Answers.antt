@@ -2,7 +2,6 @@
 use mathlib.Core.Path.{ap, ◌∙◌}
 use mathlib.Core.List.{List}
 use Prim.Native.Nat.{ℕ}
-use borrow.Author.Rules.{rules}
 use Rattle.texts.specs.Decimal.{decimal}
 use Rattle.texts.specs.Texts.{end, put_in, put_all}
 use Rattle.gap_report.specs.Lines.{space}
@@ -11,13 +10,8 @@ use Rattle.gap_report.proofs.put_run.Goals as goal
 pub returns : goal.returns
 unfolding put_all
 returns c =
-    let fifth = c in
-    let fourth = fifth in
-    let third = fourth in
-    let second = third in
-    let first = second in
-    let asked = first.args in
-    fifth.put.ensures ∙ ap (λ (held : ℕ × List ℕ). put_in held end) (
-    fourth.put_number-after_length.ensures ∙ ap (λ (held : ℕ × List ℕ). put_in held (decimal asked.length)) (
-    third.put-after_space.ensures ∙ ap (λ (held : ℕ × List ℕ). put_in held space) (
-    second.put_number-after_start.ensures ∙ ap (λ (held : ℕ × List ℕ). put_in held (decimal asked.start)) first.put-after_word.ensures)))
+    let asked = c.args in
+    c.put.ensures ∙ ap (λ (held : ℕ × List ℕ). put_in held end) (
+    c.put_number-after_length.ensures ∙ ap (λ (held : ℕ × List ℕ). put_in held (decimal asked.length)) (
+    c.put-after_space.ensures ∙ ap (λ (held : ℕ × List ℕ). put_in held space) (
+    c.put_number-after_start.ensures ∙ ap (λ (held : ℕ × List ℕ). put_in held (decimal asked.start)) c.put-after_word.ensures)))

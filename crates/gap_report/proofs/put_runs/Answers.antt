@@ -9,26 +9,17 @@ use Rattle.gap_report.proofs.put_runs.Goals as goal
 
 pub returns-in_default : goal.returns-in_default
 returns-in_default c =
-    let found = c in
-    let entry = found in
-    absurd (not_refused entry.args.tree entry.args.used _ found.runs-found.result _ found.runs-found.ensures entry.requires (omega arith) _ c.in_default.is)
+    absurd (not_refused c.args.tree c.args.used _ c.runs-found.result _ c.runs-found.ensures c.requires (omega arith) _ c.in_default.is)
 
 pub put_list-requires : goal.put_list-requires
 put_list-requires c =
-    let told = c in
-    let found = told in
-    let entry = found in
-    let long : length found.runs-found.new.list ≡ 1024 = search rules in
-    let few = list_few entry.args.tree entry.args.used _ found.runs-found.result _ found.runs-found.ensures entry.requires (omega arith) _ told.in-Is.is in
+    let long : length c.runs-found.new.list ≡ 1024 = search rules in
+    let few = list_few c.args.tree c.args.used _ c.runs-found.result _ c.runs-found.ensures c.requires (omega arith) _ c.in-Is.is in
     (omega (arith, long, few), omega (arith, long))
 
 pub returns : goal.returns
 returns c =
-    let put = c in
-    let told = put in
-    let found = told in
-    let entry = found in
-    let asked = entry.args in
-    put.put_list.ensures
+    let asked = c.args in
+    c.put_list.ensures
     ∙ ap (put_all (asked.at, asked.text.now))
-    (list_lines asked.tree asked.used _ found.runs-found.result _ found.runs-found.ensures entry.requires (omega arith) _ told.in-Is.is asked.word.now)
+    (list_lines asked.tree asked.used _ c.runs-found.result _ c.runs-found.ensures c.requires (omega arith) _ c.in-Is.is asked.word.now)

@@ -2,7 +2,6 @@
 use mathlib.Core.Path.{ap, ◌∙◌}
 use mathlib.Core.List.{List}
 use Prim.Native.Nat.{ℕ}
-use borrow.Author.Rules.{rules}
 use Rattle.texts.specs.Decimal.{decimal}
 use Rattle.texts.specs.Texts.{end, put_in, put_all}
 use Rattle.gap_report.proofs.put_slots.Goals as goal
@@ -10,9 +9,6 @@ use Rattle.gap_report.proofs.put_slots.Goals as goal
 pub returns : goal.returns
 unfolding put_all
 returns c =
-    let third = c in
-    let second = third in
-    let first = second in
-    let asked = first.args in
-    third.put.ensures ∙ ap (λ (held : ℕ × List ℕ). put_in held end) (
-    second.put_number-after_number.ensures ∙ ap (λ (held : ℕ × List ℕ). put_in held (decimal asked.free)) first.put-after_word.ensures)
+    let asked = c.args in
+    c.put.ensures ∙ ap (λ (held : ℕ × List ℕ). put_in held end) (
+    c.put_number-after_number.ensures ∙ ap (λ (held : ℕ × List ℕ). put_in held (decimal asked.free)) c.put-after_word.ensures)

@@ -4,8 +4,6 @@ use mathlib.Core.List.{List}
 use mathlib.Core.Bool.{true, false}
 use Prim.Native.Nat.{ℕ}
 use native.Mathlib.Nat.{pos_of_ne-zero}
-use borrow.Author.Rules.{rules}
-use borrow.Author.Tests.{not-true, not-false}
 use Rattle.answers.specs.Said.{value}
 use Rattle.answers.specs.declared.Run.{Run}
 use Rattle.slots.specs.View.{found_sound, found_unsound}
@@ -23,28 +21,27 @@ After-longest-best = lts.After-longest tie.the-claims reads.Pre reads.Post
 
 pub returns-then-not-is_sound : goal.returns-then-not-is_sound
 returns-then-not-is_sound c =
-    let tested = c in
-    let t = tested.args.tree in
-    sym (found_unsound tree_view t (longest_call 10 (slot_of t)) (sym tested.is_sound.ensures ∙ c.if-not-is_sound.true))
+    let t = c.args.tree in
+    sym (found_unsound tree_view t (longest_call 10 (slot_of t)) (sym c.is_sound.ensures ∙ c.if-not-is_sound.true))
 
 -- the tree is sound, and the run that was found is its longest
-sound-at : (c : After-longest-best) → tree_view.is_sound c.args.tree ≡ true
-sound-at c = let passed = c in sym passed.is_sound.ensures ∙ passed.if-not-is_sound.false
+sound_at : (c : After-longest-best) → tree_view.is_sound c.args.tree ≡ true
+sound_at c = sym c.is_sound.ensures ∙ c.if-not-is_sound.false
 
-longest-at : (c : After-longest-best) → c.longest-best.result ≡ longest_of 10 false (slot_of c.args.tree)
-longest-at c = c.longest-best.ensures ∙ ap (λ (words : List ℕ). longest_of 10 false (slot_in words)) c.words-words.ensures
+longest_at : (c : After-longest-best) → c.longest-best.result ≡ longest_of 10 false (slot_of c.args.tree)
+longest_at c = c.longest-best.ensures ∙ ap (λ (words : List ℕ). longest_of 10 false (slot_in words)) c.words-words.ensures
 
 pub returns-then-best-eq0 : goal.returns-then-best-eq0
 returns-then-best-eq0 c =
     let found = c.before.before in
     let t = found.args.tree in
-    sym (found_sound tree_view t (longest_call 10 (slot_of t)) (sound-at found)
-    ∙ longest_none (slot_of t) (ap (λ (r : Run). r.length) (sym (longest-at found)) ∙ c.if-best-eq0.true))
+    sym (found_sound tree_view t (longest_call 10 (slot_of t)) (sound_at found)
+    ∙ longest_none (slot_of t) (ap (λ (r : Run). r.length) (sym (longest_at found)) ∙ c.if-best-eq0.true))
 
 pub returns : goal.returns
 returns c =
     let found = c.before.before in
     let t = found.args.tree in
-    ap value (longest-at found)
-    ∙ sym (found_sound tree_view t (longest_call 10 (slot_of t)) (sound-at found)
-    ∙ longest_some (slot_of t) (rw (ap (λ (r : Run). r.length) (sym (longest-at found))) (pos_of_ne-zero c.if-best-eq0.false)))
+    ap value (longest_at found)
+    ∙ sym (found_sound tree_view t (longest_call 10 (slot_of t)) (sound_at found)
+    ∙ longest_some (slot_of t) (rw (ap (λ (r : Run). r.length) (sym (longest_at found))) (pos_of_ne-zero c.if-best-eq0.false)))

@@ -4,7 +4,6 @@ use mathlib.Core.Bool.{Bool, true}
 use mathlib.Core.List.{List, [], ◌∷◌}
 use Prim.Native.Nat.{ℕ, ◌-◌}
 use native.Mathlib.Omega.{arith}
-use borrow.Author.Rules.{rules}
 use Rattle.bits.specs.Range.{least}
 use Rattle.slots.specs.Sets.{Slots}
 use Rattle.slots.specs.Lowest.{free_from}
@@ -28,19 +27,13 @@ returns-then-used c =
 
 pub returns-then-slot-ge-SLOTS : goal.returns-then-slot-ge-SLOTS
 returns-then-slot-ge-SLOTS c =
-    let found = c in
-    let left = found in
-    let entry = left in
-    let asked = entry.args in
-    near_none (slot_in asked.words.now) asked.from entry.requires.1 (rw (sym (found.first_free-slot.ensures ∙ free_at asked.words.now asked.from)) c.if-slot-ge-SLOTS.true)
-    ∙ sym (ap (λ (b : Bool). least (having b (slot_in asked.words.now)) asked.from (1024 - asked.from)) left.if-used.false)
+    let asked = c.args in
+    near_none (slot_in asked.words.now) asked.from c.requires.1 (rw (sym (c.first_free-slot.ensures ∙ free_at asked.words.now asked.from)) c.if-slot-ge-SLOTS.true)
+    ∙ sym (ap (λ (b : Bool). least (having b (slot_in asked.words.now)) asked.from (1024 - asked.from)) c.if-used.false)
 
 pub returns : goal.returns
 returns c =
-    let found = c in
-    let left = found in
-    let entry = left in
-    let asked = entry.args in
-    let same = found.first_free-slot.ensures ∙ free_at asked.words.now asked.from in
-    same ∙ near_found (slot_in asked.words.now) asked.from entry.requires.1 (rw (sym same) (omega arith))
-    ∙ sym (ap (λ (b : Bool). least (having b (slot_in asked.words.now)) asked.from (1024 - asked.from)) left.if-used.false)
+    let asked = c.args in
+    let same = c.first_free-slot.ensures ∙ free_at asked.words.now asked.from in
+    same ∙ near_found (slot_in asked.words.now) asked.from c.requires.1 (rw (sym same) (omega arith))
+    ∙ sym (ap (λ (b : Bool). least (having b (slot_in asked.words.now)) asked.from (1024 - asked.from)) c.if-used.false)

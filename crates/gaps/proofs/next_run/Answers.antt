@@ -3,7 +3,6 @@ use mathlib.Core.Path.{◌≡◌, ap, ◌∙◌}
 use mathlib.Core.Bool.{Bool, not}
 use Prim.Native.Nat.{ℕ, ◌-◌, ◌≤◌}
 use native.Mathlib.Omega.{arith}
-use borrow.Author.Rules.{rules}
 use Rattle.answers.specs.Answers.{run}
 use Rattle.bits.specs.Range.{least, least_from, least_to}
 use Rattle.slots.specs.Runs.{next_run}
@@ -18,14 +17,13 @@ abbrev After-next_of-start : Type 0
 After-next_of-start = lts.After-next_of tie.the-claims reads.Pre reads.Post
 
 -- the next slot is no further than the end, and so the run's end lies after it
-near-at : (c : After-next_of-start) → c.next_of-start.result ≤ 1024
-near-at c =
-    let entry = c in
-    let asked = entry.args in
-    omega (arith, c.next_of-start.ensures, least_to (having asked.used (slot_in asked.words.now)) asked.from (1024 - asked.from), entry.requires.1)
+near_at : (c : After-next_of-start) → c.next_of-start.result ≤ 1024
+near_at c =
+    let asked = c.args in
+    omega (arith, c.next_of-start.ensures, least_to (having asked.used (slot_in asked.words.now)) asked.from (1024 - asked.from), c.requires.1)
 
 pub next_of-end-requires : goal.next_of-end-requires
-next_of-end-requires c = (c.requires.0, near-at c.before)
+next_of-end-requires c = (c.requires.0, near_at c.before)
 
 pub overflow_sub-result : goal.overflow_sub-result
 overflow_sub-result c =

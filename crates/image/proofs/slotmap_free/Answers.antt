@@ -2,7 +2,6 @@
 use mathlib.Core.Path.{◌∙◌}
 use mir.Syntax.{w32}
 use mir.ValLaws.{to_z-of_z}
-use borrow.Author.Rules.{rules}
 use Rattle.slots.specs.Calls.{free_call}
 use Rattle.tree.specs.declared.Tree.{Tree}
 use Rattle.tree.specs.Layout.{slot_of}
@@ -12,34 +11,22 @@ use Rattle.image.proofs.slotmap_free.Goals as goal
 
 pub returns-then-not-is_image : goal.returns-then-not-is_image
 returns-then-not-is_image c =
-    let tested = c in
-    let asked = tested.args in
-    told_none asked.image.now _ tested.is_image.ensures c.if-not-is_image.true (free asked.start asked.n)
+    let asked = c.args in
+    told_none asked.image.now _ c.is_image.ensures c.if-not-is_image.true (free asked.start asked.n)
 
 pub held-requires : goal.held-requires
 held-requires c =
-    let passed = c in
-    let tested = passed in
-    long tested.args.image.now _ tested.is_image.ensures passed.if-not-is_image.false
+    long c.args.image.now _ c.is_image.ensures c.if-not-is_image.false
 
 pub left_in-requires : goal.left_in-requires
 left_in-requires c =
-    let freed = c in
-    let held = freed in
-    let passed = held in
-    let tested = passed in
-    let asked = tested.args in (
-      long asked.image.now _ tested.is_image.ensures passed.if-not-is_image.false,
-      free_short held.held.result asked.start asked.n freed.free-freed.result freed.free-freed.ensures,
+    let asked = c.args in (
+      long asked.image.now _ c.is_image.ensures c.if-not-is_image.false,
+      free_short c.held.result asked.start asked.n c.free-freed.result c.free-freed.ensures,
     )
 
 pub returns : goal.returns
 returns c =
-    let left = c in
-    let freed = left in
-    let held = freed in
-    let passed = held in
-    let tested = passed in
-    let asked = tested.args in
-    (λ i. (to_z-of_z w32 left.left_in.result (record { sfits = left.left_in.type_inv }) i, left.left_in.new.image))
-    ∙ told_change asked.image.now _ tested.is_image.ensures passed.if-not-is_image.false (λ (t : Tree). free_call 10 (slot_of t) asked.start asked.n) _ held.held.ensures _ freed.free-freed.ensures _ _ left.left_in.ensures
+    let asked = c.args in
+    (λ i. (to_z-of_z w32 c.left_in.result (record { sfits = c.left_in.type_inv }) i, c.left_in.new.image))
+    ∙ told_change asked.image.now _ c.is_image.ensures c.if-not-is_image.false (λ (t : Tree). free_call 10 (slot_of t) asked.start asked.n) _ c.held.ensures _ c.free-freed.ensures _ _ c.left_in.ensures

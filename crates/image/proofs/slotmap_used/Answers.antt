@@ -2,43 +2,30 @@
 use mathlib.Core.Path.{◌∙◌}
 use mir.Syntax.{w32}
 use mir.ValLaws.{to_z_pos, to_z-of_z}
-use borrow.Author.Rules.{rules}
 use Rattle.image.specs.Says.{used}
 use Rattle.image.proofs.Outcomes.{told_none, long, told_count, count_fits}
 use Rattle.image.proofs.slotmap_used.Goals as goal
 
 pub returns-then-not-is_image : goal.returns-then-not-is_image
 returns-then-not-is_image c =
-    let tested = c in
-    told_none tested.args.image.now _ tested.is_image.ensures c.if-not-is_image.true used
+    told_none c.args.image.now _ c.is_image.ensures c.if-not-is_image.true used
 
 pub held-requires : goal.held-requires
 held-requires c =
-    let tested = c in
-    long tested.args.image.now _ tested.is_image.ensures c.if-not-is_image.false
+    long c.args.image.now _ c.is_image.ensures c.if-not-is_image.false
 
 pub overflow_cast-result : goal.overflow_cast-result
 overflow_cast-result c =
-    let counted = c in
-    record { sfits = count_fits counted.held.result _ counted.used-counted.ensures _ c.in-Is.is }
+    record { sfits = count_fits c.held.result _ c.used-counted.ensures _ c.in-Is.is }
 
 pub returns-in-Is : goal.returns-in-Is
 returns-in-Is c =
-    let counted = c in
-    let held = counted in
-    let passed = held in
-    let tested = passed in
-    let bytes = tested.args.image.now in
+    let bytes = c.args.image.now in
     (λ i. (to_z_pos w32 _ (overflow_cast-result c).sfits i, bytes))
-    ∙ told_count bytes _ tested.is_image.ensures passed.if-not-is_image.false _ held.held.ensures _ counted.used-counted.ensures _ c.in-Is.is
+    ∙ told_count bytes _ c.is_image.ensures c.if-not-is_image.false _ c.held.ensures _ c.used-counted.ensures _ c.in-Is.is
 
 pub returns-in-Refused : goal.returns-in-Refused
 returns-in-Refused c =
-    let known = c in
-    let counted = known in
-    let held = counted in
-    let passed = held in
-    let tested = passed in
-    let bytes = tested.args.image.now in
+    let bytes = c.args.image.now in
     (λ i. ((to_z-of_z w32 _ (record { sfits = c.negated.type_inv }) ∙ c.negated.ensures) i, bytes))
-    ∙ told_count bytes _ tested.is_image.ensures passed.if-not-is_image.false _ held.held.ensures _ counted.used-counted.ensures _ known.in-Refused.is
+    ∙ told_count bytes _ c.is_image.ensures c.if-not-is_image.false _ c.held.ensures _ c.used-counted.ensures _ c.in-Refused.is

@@ -1,7 +1,6 @@
 -- `image::unread` meets its contract. Assumes nothing.
 use Rattle.answers.specs.Said.{refused}
 use Rattle.image.specs.ImageAnswers.{image_number_of}
-use borrow.Author.Rules.{rules}
 use Rattle.image.proofs.unread.Goals as goal
 
 pub returns : goal.returns

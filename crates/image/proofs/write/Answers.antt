@@ -5,7 +5,6 @@ use Rattle.answers.specs.Said.{value, refused}
 use Rattle.answers.specs.Answers.{ok}
 use Rattle.tree.specs.Demands.{refused_unsound, counted_sound}
 use Rattle.image.proofs.Outcomes.{write_short, write_unsound, write_sound}
-use borrow.Author.Rules.{rules}
 use Rattle.image.proofs.write.Goals as goal
 
 pub returns-then-image-ne-LENGTH : goal.returns-then-image-ne-LENGTH
@@ -15,17 +14,12 @@ returns-then-image-ne-LENGTH c =
 
 pub returns-in-Refused : goal.returns-in-Refused
 returns-in-Refused c =
-    let counted = c in
-    let tested = counted in
-    let asked = tested.args in
-    let so = refused_unsound asked.map _ counted.used-counted.ensures _ c.in-Refused.is in
-    ap (λ (k : ℕ). (refused k, asked.image.now)) so.1 ∙ sym (write_unsound asked.map asked.image.now tested.if-image-ne-LENGTH.false so.0)
+    let asked = c.args in
+    let so = refused_unsound asked.map _ c.used-counted.ensures _ c.in-Refused.is in
+    ap (λ (k : ℕ). (refused k, asked.image.now)) so.1 ∙ sym (write_unsound asked.map asked.image.now c.if-image-ne-LENGTH.false so.0)
 
 pub returns : goal.returns
 returns c =
-    let told = c in
-    let counted = told in
-    let tested = counted in
-    let asked = tested.args in
+    let asked = c.args in
     (λ i. (value ok, c.put.ensures i))
-    ∙ sym (write_sound asked.map asked.image.now tested.if-image-ne-LENGTH.false (counted_sound asked.map _ counted.used-counted.ensures _ told.in_default.is).0)
+    ∙ sym (write_sound asked.map asked.image.now c.if-image-ne-LENGTH.false (counted_sound asked.map _ c.used-counted.ensures _ c.in_default.is).0)

@@ -1,6 +1,5 @@
 -- `jobs::as_job_answer` meets its contract: each answer of the tree says the same here. Assumes nothing.
 use mathlib.Core.Path.{sym, ap}
-use borrow.Author.Rules.{rules}
 use Rattle.answers.specs.Answers.{answer_says}
 use Rattle.jobs.proofs.as_job_answer.Goals as goal
 

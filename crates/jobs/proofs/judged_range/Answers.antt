@@ -1,6 +1,5 @@
 -- `jobs::judged_range` meets its contract: 1 where a reaped slot is not used or the tree is not sound, and else what the judge of ranges says. Assumes nothing.
 use mathlib.Core.Path.{◌∙◌}
-use borrow.Author.Rules.{rules}
 use Rattle.slots.specs.Calls.{says}
 use Rattle.jobs.specs.Inner.{range_call}
 use Rattle.jobs.proofs.Outcomes.{shown_kept, asked_amiss, tree_refused, tree_passed}
@@ -8,32 +7,23 @@ use Rattle.jobs.proofs.judged_range.Goals as goal
 
 pub returns-then-not-reaped_used : goal.returns-then-not-reaped_used
 returns-then-not-reaped_used c =
-    let tested = c in
-    let asked = tested.args in
-    asked_amiss asked.tree asked.reaped.now _ tested.reaped_used.ensures (range_call asked.start asked.n) c.if-not-reaped_used.true
+    let asked = c.args in
+    asked_amiss asked.tree asked.reaped.now _ c.reaped_used.ensures (range_call asked.start asked.n) c.if-not-reaped_used.true
 
 pub returns-in-Refused : goal.returns-in-Refused
 returns-in-Refused c =
-    let known = c in
-    let telling = known in
-    let first = telling in
-    let tested = first in
-    let asked = tested.args in
+    let asked = c.args in
     let tree = asked.tree in
     let reaped = asked.reaped.now in
-    tree_refused tree reaped telling.empty-told.result telling.empty-told.ensures (shown_kept tree reaped _ tested.reaped_used.ensures first.if-not-reaped_used.false)
-    (range_call asked.start asked.n) known.in-Refused.why known.in-Refused.is
+    tree_refused tree reaped c.empty-told.result c.empty-told.ensures (shown_kept tree reaped _ c.reaped_used.ensures c.if-not-reaped_used.false)
+    (range_call asked.start asked.n) c.in-Refused.why c.in-Refused.is
 
 pub returns : goal.returns
 unfolding says
 returns c =
-    let kept = c in
-    let telling = kept in
-    let first = telling in
-    let tested = first in
-    let asked = tested.args in
+    let asked = c.args in
     let tree = asked.tree in
     let reaped = asked.reaped.now in
     c.range.ensures
-    ∙ tree_passed tree reaped telling.empty-told.result telling.empty-told.ensures (shown_kept tree reaped _ tested.reaped_used.ensures first.if-not-reaped_used.false)
-    (range_call asked.start asked.n) kept.in_default.not-Refused
+    ∙ tree_passed tree reaped c.empty-told.result c.empty-told.ensures (shown_kept tree reaped _ c.reaped_used.ensures c.if-not-reaped_used.false)
+    (range_call asked.start asked.n) c.in_default.not-Refused

@@ -2,7 +2,6 @@
 use mathlib.Core.Path.{sym, ap, ◌∙◌}
 use mathlib.Core.List.{List}
 use Prim.Native.Nat.{ℕ}
-use borrow.Author.Rules.{rules}
 use Rattle.answers.specs.Said.{judged_found, judged_passed}
 use Rattle.answers.specs.Answers.{ok}
 use Rattle.slots.specs.Sets.{all_used}
@@ -12,46 +11,31 @@ use Rattle.jobs.proofs.judged_reap.Goals as goal
 
 pub returns-in-Refused : goal.returns-in-Refused
 returns-in-Refused c =
-    let known = c in
-    let judging = known in
-    let asked = judging.args in
-    reap_first asked.tree asked.reaped.now asked.start asked.n judging.judged_range-judged.result judging.judged_range-judged.ensures known.in-Refused.why known.in-Refused.is
+    let asked = c.args in
+    reap_first asked.tree asked.reaped.now asked.start asked.n c.judged_range-judged.result c.judged_range-judged.ensures c.in-Refused.why c.in-Refused.is
 
 pub returns-then-not-all_used : goal.returns-then-not-all_used
 returns-then-not-all_used c =
-    let tested = c in
-    let reading = tested in
-    let kept = reading in
-    let judging = kept in
-    let asked = judging.args in
+    let asked = c.args in
     let tree = asked.tree in
     let reaped = asked.reaped.now in
-    let told = tested.all_used.ensures ∙ ap (λ (ws : List ℕ). all_used (slot_in ws) asked.start asked.n) reading.words-words.ensures in
-    sym (reap_by tree reaped asked.start asked.n judging.judged_range-judged.result judging.judged_range-judged.ensures kept.in_default.not-Refused
+    let told = c.all_used.ensures ∙ ap (λ (ws : List ℕ). all_used (slot_in ws) asked.start asked.n) c.words-words.ensures in
+    sym (reap_by tree reaped asked.start asked.n c.judged_range-judged.result c.judged_range-judged.ensures c.in_default.not-Refused
     ∙ judged_found 13 _ ok (idle_unused tree reaped asked.start asked.n _ told c.if-not-all_used.true))
 
 pub returns-then-not-all_free : goal.returns-then-not-all_free
 returns-then-not-all_free c =
-    let tested = c in
-    let kept = tested in
-    let judging = kept in
-    let asked = judging.args in
+    let asked = c.args in
     let tree = asked.tree in
     let reaped = asked.reaped.now in
-    sym (reap_by tree reaped asked.start asked.n judging.judged_range-judged.result judging.judged_range-judged.ensures kept.in_default.not-Refused
-    ∙ judged_found 13 _ ok (idle_reaped tree reaped asked.start asked.n _ tested.all_free.ensures c.if-not-all_free.true))
+    sym (reap_by tree reaped asked.start asked.n c.judged_range-judged.result c.judged_range-judged.ensures c.in_default.not-Refused
+    ∙ judged_found 13 _ ok (idle_reaped tree reaped asked.start asked.n _ c.all_free.ensures c.if-not-all_free.true))
 
 pub returns : goal.returns
 returns c =
-    let second = c in
-    let first = second in
-    let tested = first in
-    let reading = tested in
-    let kept = reading in
-    let judging = kept in
-    let asked = judging.args in
+    let asked = c.args in
     let tree = asked.tree in
     let reaped = asked.reaped.now in
-    let told = tested.all_used.ensures ∙ ap (λ (ws : List ℕ). all_used (slot_in ws) asked.start asked.n) reading.words-words.ensures in
-    sym (reap_by tree reaped asked.start asked.n judging.judged_range-judged.result judging.judged_range-judged.ensures kept.in_default.not-Refused
-    ∙ judged_passed 13 _ ok (none_idle tree reaped asked.start asked.n _ _ told second.all_free.ensures first.if-not-all_used.false c.if-not-all_free.false))
+    let told = c.all_used.ensures ∙ ap (λ (ws : List ℕ). all_used (slot_in ws) asked.start asked.n) c.words-words.ensures in
+    sym (reap_by tree reaped asked.start asked.n c.judged_range-judged.result c.judged_range-judged.ensures c.in_default.not-Refused
+    ∙ judged_passed 13 _ ok (none_idle tree reaped asked.start asked.n _ _ told c.all_free.ensures c.if-not-all_used.false c.if-not-all_free.false))

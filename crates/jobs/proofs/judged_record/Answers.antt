@@ -1,7 +1,6 @@
 -- `jobs::judged_record` meets its contract: the checks that come first, and then that each named slot is reaped. Assumes nothing.
 use mathlib.Core.Path.{sym, ap, ◌∙◌}
 use mathlib.Core.Bool.{not}
-use borrow.Author.Rules.{rules}
 use Rattle.answers.specs.Said.{judged_found, judged_passed}
 use Rattle.answers.specs.Answers.{ok}
 use Rattle.jobs.proofs.Outcomes.{record_first, record_by}
@@ -9,25 +8,17 @@ use Rattle.jobs.proofs.judged_record.Goals as goal
 
 pub returns-in-Refused : goal.returns-in-Refused
 returns-in-Refused c =
-    let known = c in
-    let judging = known in
-    let asked = judging.args in
-    record_first asked.tree asked.reaped.now asked.start asked.n judging.judged_range-judged.result judging.judged_range-judged.ensures known.in-Refused.why known.in-Refused.is
+    let asked = c.args in
+    record_first asked.tree asked.reaped.now asked.start asked.n c.judged_range-judged.result c.judged_range-judged.ensures c.in-Refused.why c.in-Refused.is
 
 pub returns-then-not-all_used : goal.returns-then-not-all_used
 returns-then-not-all_used c =
-    let tested = c in
-    let kept = tested in
-    let judging = kept in
-    let asked = judging.args in
-    sym (record_by asked.tree asked.reaped.now asked.start asked.n judging.judged_range-judged.result judging.judged_range-judged.ensures kept.in_default.not-Refused
-    ∙ judged_found 14 _ ok (ap not (sym tested.all_used.ensures ∙ c.if-not-all_used.true)))
+    let asked = c.args in
+    sym (record_by asked.tree asked.reaped.now asked.start asked.n c.judged_range-judged.result c.judged_range-judged.ensures c.in_default.not-Refused
+    ∙ judged_found 14 _ ok (ap not (sym c.all_used.ensures ∙ c.if-not-all_used.true)))
 
 pub returns : goal.returns
 returns c =
-    let tested = c in
-    let kept = tested in
-    let judging = kept in
-    let asked = judging.args in
-    sym (record_by asked.tree asked.reaped.now asked.start asked.n judging.judged_range-judged.result judging.judged_range-judged.ensures kept.in_default.not-Refused
-    ∙ judged_passed 14 _ ok (ap not (sym tested.all_used.ensures ∙ c.if-not-all_used.false)))
+    let asked = c.args in
+    sym (record_by asked.tree asked.reaped.now asked.start asked.n c.judged_range-judged.result c.judged_range-judged.ensures c.in_default.not-Refused
+    ∙ judged_passed 14 _ ok (ap not (sym c.all_used.ensures ∙ c.if-not-all_used.false)))

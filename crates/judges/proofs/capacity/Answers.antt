@@ -1,5 +1,4 @@
 -- `judges::capacity` meets its contract: 2 to the exponent of each size. Assumes nothing.
-use borrow.Author.Rules.{rules}
 use Rattle.judges.proofs.capacity.Goals as goal
 
 pub returns-in-Word : goal.returns-in-Word

@@ -1,6 +1,5 @@
 -- `judges::get` meets its contract: 4 past the end, and else the slot. Assumes nothing.
 use mathlib.Core.Path.{sym, ap, ◌∙◌}
-use borrow.Author.Rules.{rules}
 use Rattle.answers.specs.Said.{value}
 use Rattle.slots.proofs.Ways.{get_past, get_inside}
 use Rattle.views.specs.Painting.{slot_in}
@@ -9,14 +8,11 @@ use Rattle.judges.proofs.get.Goals as goal
 
 pub returns-then-capacity-slot : goal.returns-then-capacity-slot
 returns-then-capacity-slot c =
-    let sized = c in
-    let asked = sized.args in
-    sym (get_past (exponent_of asked.size) (slot_in asked.words.now) asked.slot (rw (sym sized.capacity.ensures) c.if-capacity-slot.true))
+    let asked = c.args in
+    sym (get_past (exponent_of asked.size) (slot_in asked.words.now) asked.slot (rw (sym c.capacity.ensures) c.if-capacity-slot.true))
 
 pub returns : goal.returns
 returns c =
-    let inside = c in
-    let sized = inside in
-    let asked = sized.args in
+    let asked = c.args in
     ap value c.get.ensures
-    ∙ sym (get_inside (exponent_of asked.size) (slot_in asked.words.now) asked.slot (rw (sym sized.capacity.ensures) inside.if-capacity-slot.false))
+    ∙ sym (get_inside (exponent_of asked.size) (slot_in asked.words.now) asked.slot (rw (sym c.capacity.ensures) c.if-capacity-slot.false))

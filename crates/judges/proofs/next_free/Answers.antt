@@ -1,6 +1,5 @@
 -- `judges::next_free` meets its contract: 4 past the end, and else what the search says. Assumes nothing.
 use mathlib.Core.Path.{sym, ◌∙◌}
-use borrow.Author.Rules.{rules}
 use Rattle.slots.proofs.Ways.{next_free_past}
 use Rattle.slots.specs.Tries.{next_says}
 use Rattle.views.specs.Full.{seen_from}
@@ -9,14 +8,11 @@ use Rattle.judges.proofs.next_free.Goals as goal
 
 pub returns-then-capacity-start : goal.returns-then-capacity-start
 returns-then-capacity-start c =
-    let sized = c in
-    let asked = sized.args in
-    sym (next_free_past (exponent_of asked.size) (seen_from asked.words.now asked.fulls.now asked.start) asked.start (rw (sym sized.capacity.ensures) c.if-capacity-start.true))
+    let asked = c.args in
+    sym (next_free_past (exponent_of asked.size) (seen_from asked.words.now asked.fulls.now asked.start) asked.start (rw (sym c.capacity.ensures) c.if-capacity-start.true))
 
 pub returns : goal.returns
 returns c =
-    let inside = c in
-    let sized = inside in
-    let asked = sized.args in
+    let asked = c.args in
     c.next_free_in.ensures
-    ∙ next_says (exponent_of asked.size) (seen_from asked.words.now asked.fulls.now asked.start) asked.start (rw (sym sized.capacity.ensures) inside.if-capacity-start.false)
+    ∙ next_says (exponent_of asked.size) (seen_from asked.words.now asked.fulls.now asked.start) asked.start (rw (sym c.capacity.ensures) c.if-capacity-start.false)

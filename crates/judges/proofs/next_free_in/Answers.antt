@@ -1,7 +1,6 @@
 -- `judges::next_free_in` meets its contract: the first free slot of the row, where it lies within the size. Assumes nothing.
 use mathlib.Core.Path.{sym, ap, ◌∙◌}
 use native.Mathlib.Omega.{arith}
-use borrow.Author.Rules.{rules}
 use Rattle.answers.specs.Said.{value}
 use Rattle.views.specs.Full.{seen_from}
 use Rattle.judges.specs.Sizes.{exponent_of, capacity_most}
@@ -10,15 +9,13 @@ use Rattle.judges.proofs.next_free_in.Goals as goal
 
 pub returns-then-capacity-slot : goal.returns-then-capacity-slot
 returns-then-capacity-slot c =
-    let searching = c in
-    let asked = searching.args in
+    let asked = c.args in
     room_none (exponent_of asked.size) (seen_from asked.words.now asked.fulls.now asked.start) asked.start (capacity_most asked.size)
-    (rw (sym searching.first_free-slot.ensures, sym c.capacity.ensures) c.if-capacity-slot.true)
+    (rw (sym c.first_free-slot.ensures, sym c.capacity.ensures) c.if-capacity-slot.true)
 
 pub returns : goal.returns
 returns c =
-    let searching = c in
-    let asked = searching.args in
-    ap value searching.first_free-slot.ensures
+    let asked = c.args in
+    ap value c.first_free-slot.ensures
     ∙ room_found (exponent_of asked.size) (seen_from asked.words.now asked.fulls.now asked.start) asked.start (capacity_most asked.size)
-    (rw (sym searching.first_free-slot.ensures, sym c.capacity.ensures) (omega arith))
+    (rw (sym c.first_free-slot.ensures, sym c.capacity.ensures) (omega arith))

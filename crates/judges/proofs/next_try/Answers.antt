@@ -2,7 +2,6 @@
 use Prim.Native.Nat.{◌-◌, ◌^◌}
 use native.Mathlib.Nat.{div-le_self}
 use native.Mathlib.Omega.{arith}
-use borrow.Author.Rules.{rules}
 use borrow.Author.Tests.{eq-eqb, ne_eqb}
 use Rattle.slots.specs.Tries.{next_try, next_by_shifts, small_power}
 use Rattle.judges.proofs.next_try.Goals as goal

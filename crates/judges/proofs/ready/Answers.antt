@@ -1,7 +1,6 @@
 -- `judges::ready` meets its contract: all free for a claim, all used for a free. Assumes nothing.
 use mathlib.Core.Path.{sym, ap, ◌∙◌}
 use mathlib.Core.Bool.{Bool}
-use borrow.Author.Rules.{rules}
 use Rattle.views.specs.Painting.{slot_in}
 use Rattle.judges.specs.Judged.{ready_for}
 use Rattle.judges.proofs.ready.Goals as goal

@@ -1,7 +1,6 @@
 -- `judges::take` meets its contract: the refusals of its numbers, and else what the search says. Assumes nothing.
 use mathlib.Core.Path.{sym, ap, ◌∙◌}
 use native.Mathlib.Omega.{arith}
-use borrow.Author.Rules.{rules}
 use Rattle.answers.specs.Said.{on_value}
 use Rattle.answers.specs.Answers.{at}
 use Rattle.slots.proofs.Ways.{take_empty, take_too_aligned, take_too_many}
@@ -20,28 +19,21 @@ returns-then-n-eq0 c =
 pub returns-then-exponent-a : goal.returns-then-exponent-a
 unfolding on_value
 returns-then-exponent-a c =
-    let known = c in
-    let asked = known.args in
-    sym (take_too_aligned (exponent_of asked.size) (slot_in (filled asked.words.now asked.fulls.now)) asked.n asked.a (omega arith) (rw (sym known.exponent.ensures) (omega arith)))
+    let asked = c.args in
+    sym (take_too_aligned (exponent_of asked.size) (slot_in (filled asked.words.now asked.fulls.now)) asked.n asked.a (omega arith) (rw (sym c.exponent.ensures) (omega arith)))
 
 pub returns-then-capacity-n : goal.returns-then-capacity-n
 unfolding on_value
 returns-then-capacity-n c =
-    let sized = c in
-    let known = sized in
-    let asked = known.args in
-    sym (take_too_many (exponent_of asked.size) (slot_in (filled asked.words.now asked.fulls.now)) asked.n asked.a (omega arith) (rw (sym known.exponent.ensures) (omega arith)) (rw (sym sized.capacity.ensures) (omega arith)))
+    let asked = c.args in
+    sym (take_too_many (exponent_of asked.size) (slot_in (filled asked.words.now asked.fulls.now)) asked.n asked.a (omega arith) (rw (sym c.exponent.ensures) (omega arith)) (rw (sym c.capacity.ensures) (omega arith)))
 
 pub lowest_start-requires : goal.lowest_start-requires
 lowest_start-requires c =
-    let sized = c in
-    let known = sized in
-    (omega arith, rw (sym sized.capacity.ensures) (omega arith), rw (sym known.exponent.ensures) (omega arith))
+    (omega arith, rw (sym c.capacity.ensures) (omega arith), rw (sym c.exponent.ensures) (omega arith))
 
 pub returns : goal.returns
 returns c =
-    let sized = c in
-    let known = sized in
-    let asked = known.args in
+    let asked = c.args in
     ap (on_value at) c.lowest_start.ensures
-    ∙ take_searched (exponent_of asked.size) (slot_in (filled asked.words.now asked.fulls.now)) asked.n asked.a (omega arith) (rw (sym known.exponent.ensures) (omega arith)) (rw (sym sized.capacity.ensures) (omega arith))
+    ∙ take_searched (exponent_of asked.size) (slot_in (filled asked.words.now asked.fulls.now)) asked.n asked.a (omega arith) (rw (sym c.exponent.ensures) (omega arith)) (rw (sym c.capacity.ensures) (omega arith))

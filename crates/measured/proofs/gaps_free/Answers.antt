@@ -3,9 +3,7 @@ use mathlib.Core.Path.{◌≡◌, refl, ◌∙◌}
 use mathlib.Core.Bool.{false}
 use lib.ListN.{length}
 use borrow.Author.Rules.{rules}
-use Rattle.tree.specs.Layout.{holding}
-use Rattle.measured.specs.Gaps.{listing}
-use Rattle.measured.proofs.Steps.{Ends, begins, step_made, none_left, listing_made}
+use Rattle.measured.proofs.Steps.{begins, step_made, none_left, listing_made}
 use Rattle.measured.proofs.gaps_free.Goals as goal
 use Rattle.measured.proofs.gaps_free.Lts as lts
 use Rattle.measured.proofs.gaps_free.Reads as reads
@@ -18,17 +16,14 @@ pub loop-left-init : goal.loop-left-init
 loop-left-init c = (begins, refl)
 
 -- a listing keeps the buffer's length
-length-made : (c : After-count_of-count) → length c.free_runs.new.list ≡ length c.loop-left.list
-length-made c = search rules
+length_made : (c : After-count_of-count) → length c.free_runs.new.list ≡ length c.loop-left.list
+length_made c = search rules
 
 pub loop-left-preserved : goal.loop-left-preserved
-loop-left-preserved c =
-    let made = c in
-    let in-loop = made in
-    let at_head = in-loop in (
-      step_made _ _ _ in-loop.loop-left-test.true at_head.loop-left.invariant.0 (listing_made _ _ _ _ at_head.loop-left.count _ _ _ at_head.holding-tree.ensures made.free_runs.ensures c.count_of-count.ensures),
-      length-made c.before ∙ at_head.loop-left.invariant.1,
-    )
+loop-left-preserved c = (
+  step_made _ _ _ c.loop-left-test.true c.loop-left.invariant.0 (listing_made _ _ _ _ c.loop-left.count _ _ _ c.holding-tree.ensures c.free_runs.ensures c.count_of-count.ensures),
+  length_made c.before ∙ c.loop-left.invariant.1,
+)
 
 pub shape_of-list : goal.shape_of-list
 shape_of-list c = c.loop-left.invariant.1

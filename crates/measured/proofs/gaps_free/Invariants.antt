@@ -1,11 +1,10 @@
 -- `measured::gaps_free` meets its contract: the listings that are left end where all of them do. Assumes nothing.
-use mathlib.Core.Path.{◌≡◌, refl, ◌∙◌}
+use mathlib.Core.Path.{◌≡◌}
 use mathlib.Core.Bool.{false}
 use lib.ListN.{length}
-use borrow.Author.Rules.{rules}
 use Rattle.tree.specs.Layout.{holding}
 use Rattle.measured.specs.Gaps.{listing}
-use Rattle.measured.proofs.Steps.{Ends, begins, step_made, none_left, listing_made}
+use Rattle.measured.proofs.Steps.{Ends}
 use Rattle.measured.proofs.gaps_free.Given as goal
 
 abbrev pub invariant-loop-left : goal.invariant-loop-left

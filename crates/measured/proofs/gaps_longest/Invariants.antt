@@ -1,8 +1,7 @@
 -- `measured::gaps_longest` meets its contract: the questions that are left end where all of them do. Assumes nothing.
-use borrow.Author.Rules.{rules}
 use Rattle.tree.specs.Layout.{holding}
 use Rattle.measured.specs.Gaps.{longest_in}
-use Rattle.measured.proofs.Steps.{Ends, begins, step_made, none_left, longest_made}
+use Rattle.measured.proofs.Steps.{Ends}
 use Rattle.measured.proofs.gaps_longest.Given as goal
 
 abbrev pub invariant-loop-left : goal.invariant-loop-left

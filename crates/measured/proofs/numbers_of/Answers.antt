@@ -1,6 +1,5 @@
 -- `measured::numbers_of` meets its contract: the run's two numbers. Assumes nothing.
 use mathlib.Core.Path.{sym, ap}
-use borrow.Author.Rules.{rules}
 use Rattle.answers.specs.Answers.{longest_run_says}
 use Rattle.answers.specs.declared.LongestRun.{LongestRun}
 use Rattle.measured.specs.Gaps.{numbers_of}

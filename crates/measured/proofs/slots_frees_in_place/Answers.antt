@@ -1,11 +1,7 @@
 -- `measured::slots_frees_in_place` meets its contract: what is left of the frees ends where all of them do. Assumes nothing.
 use mathlib.Core.Path.{ap}
 use Prim.Native.Nat.{◌-◌}
-use lib.ListN.{length, drop}
-use borrow.Author.Rules.{rules}
-use Rattle.tree.specs.Layout.{holding, tree_view}
-use Rattle.measured.specs.Series.{frees_of}
-use Rattle.measured.proofs.Turns.{Ends, begins, free_turn, none_to_free, finished}
+use Rattle.measured.proofs.Turns.{begins, free_turn, none_to_free, finished}
 use Rattle.measured.proofs.slots_frees_in_place.Goals as goal
 
 pub loop-i-init : goal.loop-i-init
@@ -16,6 +12,5 @@ loop-i-preserved c = free_turn _ _ _ c.free_in_copy.result.map c.loop-i-test.tru
 
 pub returns : goal.returns
 returns c =
-    let out-of-loop = c in
-    let at_head = out-of-loop.loop-i in
-    finished (λ t. t.words) _ _ (none_to_free _ _ at_head.i out-of-loop.loop-i-test.false at_head.invariant) c.left_in.ensures
+    let at_head = c.loop-i in
+    finished (λ t. t.words) _ _ (none_to_free _ _ at_head.i c.loop-i-test.false at_head.invariant) c.left_in.ensures

@@ -1,9 +1,6 @@
 -- `measured::slots_takes` meets its contract: what is left of the takes ends where all of them do. Assumes nothing.
 use mathlib.Core.Path.{ap}
-use borrow.Author.Rules.{rules}
-use Rattle.tree.specs.Layout.{holding, tree_view}
-use Rattle.measured.specs.Series.{takes_of}
-use Rattle.measured.proofs.Turns.{Ends, begins, take_turn, none_to_take, finished}
+use Rattle.measured.proofs.Turns.{begins, take_turn, none_to_take, finished}
 use Rattle.measured.proofs.slots_takes.Goals as goal
 
 pub loop-left-init : goal.loop-left-init
@@ -14,6 +11,5 @@ loop-left-preserved c = take_turn _ _ _ c.take.result.map c.loop-left-test.true 
 
 pub returns : goal.returns
 returns c =
-    let out-of-loop = c in
-    let at_head = out-of-loop.loop-left in
-    finished (λ t. t.words) _ _ (none_to_take _ _ at_head.left out-of-loop.loop-left-test.false at_head.invariant) c.left_in.ensures
+    let at_head = c.loop-left in
+    finished (λ t. t.words) _ _ (none_to_take _ _ at_head.left c.loop-left-test.false at_head.invariant) c.left_in.ensures

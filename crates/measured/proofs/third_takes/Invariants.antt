@@ -1,9 +1,7 @@
 -- `measured::third_takes` meets its contract: what is left of the takes ends where all of them do. Assumes nothing.
-use mathlib.Core.Path.{ap}
-use borrow.Author.Rules.{rules}
 use Rattle.third.specs.Layout.{holding, third_view}
 use Rattle.measured.specs.Series.{takes_of}
-use Rattle.measured.proofs.Turns.{Ends, begins, take_turn, none_to_take, finished}
+use Rattle.measured.proofs.Turns.{Ends}
 use Rattle.measured.proofs.third_takes.Given as goal
 
 abbrev pub invariant-loop-left : goal.invariant-loop-left

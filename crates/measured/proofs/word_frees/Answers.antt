@@ -2,11 +2,7 @@
 use mathlib.Core.Path.{ap}
 use mathlib.Core.List.{[], ◌∷◌}
 use Prim.Native.Nat.{◌-◌}
-use lib.ListN.{length, get_or, drop}
-use borrow.Author.Rules.{rules}
-use Rattle.word.specs.Layout.{word_of, word_view}
-use Rattle.measured.specs.Series.{frees_of}
-use Rattle.measured.proofs.Turns.{Ends, begins, free_turn, none_to_free, finished}
+use Rattle.measured.proofs.Turns.{begins, free_turn, none_to_free, finished}
 use Rattle.measured.proofs.word_frees.Goals as goal
 
 pub loop-i-init : goal.loop-i-init
@@ -17,6 +13,5 @@ loop-i-preserved c = free_turn _ _ _ c.free.result.map c.loop-i-test.true c.loop
 
 pub returns : goal.returns
 returns c =
-    let out-of-loop = c in
-    let at_head = out-of-loop.loop-i in
-    finished (λ w. w.bits ∷ []) _ _ (none_to_free _ _ at_head.i out-of-loop.loop-i-test.false at_head.invariant) c.left_in_word.ensures
+    let at_head = c.loop-i in
+    finished (λ w. w.bits ∷ []) _ _ (none_to_free _ _ at_head.i c.loop-i-test.false at_head.invariant) c.left_in_word.ensures

@@ -1,12 +1,9 @@
 -- `measured::word_frees` meets its contract: what is left of the frees ends where all of them do. Assumes nothing.
-use mathlib.Core.Path.{ap}
-use mathlib.Core.List.{[], ◌∷◌}
 use Prim.Native.Nat.{◌-◌}
 use lib.ListN.{length, get_or, drop}
-use borrow.Author.Rules.{rules}
 use Rattle.word.specs.Layout.{word_of, word_view}
 use Rattle.measured.specs.Series.{frees_of}
-use Rattle.measured.proofs.Turns.{Ends, begins, free_turn, none_to_free, finished}
+use Rattle.measured.proofs.Turns.{Ends}
 use Rattle.measured.proofs.word_frees.Given as goal
 
 abbrev pub invariant-loop-i : goal.invariant-loop-i

@@ -1,11 +1,8 @@
 -- `measured::word_takes` meets its contract: what is left of the takes ends where all of them do. Assumes nothing.
-use mathlib.Core.Path.{ap}
-use mathlib.Core.List.{[], ◌∷◌}
 use lib.ListN.{get_or}
-use borrow.Author.Rules.{rules}
 use Rattle.word.specs.Layout.{word_of, word_view}
 use Rattle.measured.specs.Series.{takes_of}
-use Rattle.measured.proofs.Turns.{Ends, begins, take_turn, none_to_take, finished}
+use Rattle.measured.proofs.Turns.{Ends}
 use Rattle.measured.proofs.word_takes.Given as goal
 
 abbrev pub invariant-loop-left : goal.invariant-loop-left

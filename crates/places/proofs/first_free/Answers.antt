@@ -3,7 +3,6 @@ use mathlib.Core.Path.{◌∙◌}
 use Prim.Native.Nat.{◌≤◌, ◌<◌}
 use native.Mathlib.Nat.{min-eq_left, min-eq_right, sub-eq-zero_of_le, le_of_lt}
 use native.Mathlib.Omega.{arith}
-use borrow.Author.Rules.{rules}
 use Rattle.bits.specs.Range.{least}
 use Rattle.slots.specs.Lowest.{free_from}
 use Rattle.places.proofs.Reasons.{first_by_zeros}

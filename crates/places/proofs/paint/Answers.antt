@@ -1,7 +1,6 @@
 -- `places::paint` meets its contract: the value decides which of the two it is. Assumes nothing.
 use mathlib.Core.Path.{sym, ap, ◌∙◌}
 use mathlib.Core.Bool.{Bool}
-use borrow.Author.Rules.{rules}
 use Rattle.places.specs.Places.{painted_in}
 use Rattle.places.proofs.paint.Goals as goal
 

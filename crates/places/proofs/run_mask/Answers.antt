@@ -1,6 +1,5 @@
 -- `places::run_mask` meets its contract: the ones kept and moved up are the run's places, at 64. Assumes nothing.
 use native.Mathlib.Omega.{arith}
-use borrow.Author.Rules.{rules}
 use Rattle.places.specs.Places.{run_mask}
 use Rattle.places.proofs.Reasons.{no_run, run_to_the_end, run_by_shifts}
 use Rattle.places.proofs.run_mask.Goals as goal

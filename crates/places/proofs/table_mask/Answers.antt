@@ -1,6 +1,5 @@
 -- `places::table_mask` meets its contract: the table's ones moved up are the run's places, at 64. Assumes nothing.
 use native.Mathlib.Omega.{arith}
-use borrow.Author.Rules.{rules}
 use Rattle.bits.specs.Masks.{low_mask}
 use Rattle.places.specs.Places.{run_mask}
 use Rattle.places.proofs.Reasons.{no_run, run_by_table}

@@ -1,13 +1,11 @@
 -- `rows::all_used` meets its contract: before each word, the run's slots in the words before it are used. Assumes nothing.
 use mathlib.Core.Path.{sym}
 use mathlib.Core.Bool.{true}
-use Prim.Native.Nat.{◌-◌, ◌*◌, ◌/◌, ◌≤◌, ◌<◌}
+use Prim.Native.Nat.{◌-◌, ◌*◌, ◌<◌}
 use native.Mathlib.Nat.{pos_of_ne-zero}
 use native.Mathlib.Omega.{arith}
-use borrow.Author.Rules.{rules}
-use borrow.Author.Tests.{not-true, not-false}
 use Rattle.views.specs.Painting.{slots_in, slot_in, slots_most, slot_past, word_there}
-use Rattle.rows.proofs.Reasons.{HasTo, has_none, has_on, has_not, has_all, run_has_not}
+use Rattle.rows.proofs.Reasons.{has_none, has_on, has_not, has_all, run_has_not}
 use Rattle.rows.proofs.all_used.Goals as goal
 use Rattle.rows.proofs.all_used.Lts as lts
 use Rattle.rows.proofs.all_used.Reads as reads
@@ -23,28 +21,25 @@ returns-then-n-eq0 c =
 
 pub returns-then-held-start : goal.returns-then-held-start
 returns-then-held-start c =
-    let known = c in
-    let asked = known.args in
-    let some : 0 < asked.n = pos_of_ne-zero known.if-n-eq0.false in
+    let asked = c.args in
+    let some : 0 < asked.n = pos_of_ne-zero c.if-n-eq0.false in
     run_has_not true (slot_in asked.words.now) asked.start asked.n asked.start (omega arith, omega arith)
-    (slot_past asked.words.now asked.start (rw (sym known.slots-held.ensures) c.if-held-start.true))
+    (slot_past asked.words.now asked.start (rw (sym c.slots-held.ensures) c.if-held-start.true))
 
 pub returns-then-held-start-2 : goal.returns-then-held-start-2
 returns-then-held-start-2 c =
-    let known = c in
-    let asked = known.args in
-    let held = known.slots-held.result in
+    let asked = c.args in
+    let held = c.slots-held.result in
     run_has_not true (slot_in asked.words.now) asked.start asked.n held (omega arith, omega arith)
-    (slot_past asked.words.now held (omega (arith, known.slots-held.ensures)))
+    (slot_past asked.words.now held (omega (arith, c.slots-held.ensures)))
 
 pub overflow_add-end : goal.overflow_add-end
-overflow_add-end c = let known = c in omega (arith, known.slots-held.ensures, slots_most known.args.words.now)
+overflow_add-end c = omega (arith, c.slots-held.ensures, slots_most c.args.words.now)
 
 pub loop-i-init : goal.loop-i-init
 loop-i-init c =
-    let known = c in
-    let asked = known.args in
-    (omega arith, omega (arith, known.slots-held.ensures, slots_most asked.words.now), has_none true asked.words.now asked.start asked.n)
+    let asked = c.args in
+    (omega arith, omega (arith, c.slots-held.ensures, slots_most asked.words.now), has_none true asked.words.now asked.start asked.n)
 
 pub overflow_mul-i : goal.overflow_mul-i
 overflow_mul-i c = omega (arith, c.loop-i.invariant.1)
@@ -58,22 +53,17 @@ there c = omega (arith, c.loop-i-test.true, c.slots-held.ensures)
 
 pub bounds-words-i : goal.bounds-words-i
 bounds-words-i c =
-    let at_head = c in
-    (word_there at_head.args.words.now at_head.loop-i.i (there c.before.before)).0
+    (word_there c.args.words.now c.loop-i.i (there c.before.before)).0
 
 pub part_mask-requires : goal.part_mask-requires
 part_mask-requires c =
-    let known = c in
-    (c.loop-i-test.true, omega (arith, known.slots-held.ensures, slots_most known.args.words.now))
+    (c.loop-i-test.true, omega (arith, c.slots-held.ensures, slots_most c.args.words.now))
 
 pub returns-then-not-all_used : goal.returns-then-not-all_used
 returns-then-not-all_used c =
-    let tested = c in
-    let masked = tested in
-    let test = masked.before.before.before.before.before in
-    let at_head = test in
-    let asked = at_head.args in
-    has_not true asked.words.now asked.start asked.n at_head.loop-i.i (there test) _ _ tested.all_used.ensures masked.part_mask.ensures c.if-not-all_used.true
+    let test = c.before.before.before.before.before in
+    let asked = test.args in
+    has_not true asked.words.now asked.start asked.n test.loop-i.i (there test) _ _ c.all_used.ensures c.part_mask.ensures c.if-not-all_used.true
 
 pub overflow_add-i : goal.overflow_add-i
 overflow_add-i c = omega (arith, c.loop-i.invariant.1)
@@ -85,20 +75,16 @@ loop-i-smaller c =
 
 pub loop-i-preserved : goal.loop-i-preserved
 loop-i-preserved c =
-    let tested = c in
-    let masked = tested in
-    let test = masked.before.before.before.before.before in
-    let at_head = test in
-    let asked = at_head.args in
-    let inv = at_head.loop-i.invariant in (
+    let test = c.before.before.before.before.before in
+    let asked = test.args in
+    let inv = test.loop-i.invariant in (
       omega (arith, inv.0),
       omega (arith, there test, slots_most asked.words.now),
-      has_on true asked.words.now asked.start asked.n at_head.loop-i.i (there test) _ _ tested.all_used.ensures masked.part_mask.ensures c.if-not-all_used.false
+      has_on true asked.words.now asked.start asked.n test.loop-i.i (there test) _ _ c.all_used.ensures c.part_mask.ensures c.if-not-all_used.false
           inv.2,
     )
 
 pub returns : goal.returns
 returns c =
-    let at_head = c in
-    let asked = at_head.args in
-    has_all true asked.words.now asked.start asked.n at_head.loop-i.i at_head.loop-i.invariant.2 (λ p named past. absurd (omega (arith, c.loop-i-test.false, named.1)))
+    let asked = c.args in
+    has_all true asked.words.now asked.start asked.n c.loop-i.i c.loop-i.invariant.2 (λ p named past. absurd (omega (arith, c.loop-i-test.false, named.1)))

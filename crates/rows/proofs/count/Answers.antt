@@ -1,8 +1,7 @@
 -- `rows::count` meets its contract: before each word, the total is the count of the slots before it. Assumes nothing.
-use mathlib.Core.Path.{◌≡◌, refl, sym, ap, ap₂, ◌∙◌}
+use mathlib.Core.Path.{refl, sym, ap, ap₂, ◌∙◌}
 use Prim.Native.Nat.{ℕ, ◌+◌, ◌-◌, ◌*◌, ◌<◌, ◌≤◌}
 use native.Mathlib.Omega.{arith}
-use borrow.Author.Rules.{rules}
 use Rattle.bits.specs.Range.{count, count_most}
 use Rattle.views.specs.Painting.{slots_in, slot_in, slots_most, word_there}
 use Rattle.rows.proofs.Reasons.{word_most, count_next}
@@ -29,18 +28,17 @@ there : (c : In-loop-i) → c.loop-i.i * 64 < slots_in c.args.words.now
 there c = rw (sym c.slots-end.ensures) c.loop-i-test.true
 
 pub bounds-words-i : goal.bounds-words-i
-bounds-words-i c = let at_head = c in (word_there at_head.args.words.now at_head.loop-i.i (there c.before.before)).0
+bounds-words-i c = (word_there c.args.words.now c.loop-i.i (there c.before.before)).0
 
 pub overflow_add-total : goal.overflow_add-total
 overflow_add-total c =
-    let at_head = c in
-    let words = at_head.args.words.now in
-    let i = at_head.loop-i.i in
+    let words = c.args.words.now in
+    let i = c.loop-i.i in
     let few : c.count-total.result ≤ 64 = word_most _ _ c.count-total.ensures in
-    omega (arith, at_head.loop-i.invariant.0, at_head.loop-i.invariant.1, slots_most words, few, count_most (slot_in words) 0 (i * 64))
+    omega (arith, c.loop-i.invariant.0, c.loop-i.invariant.1, slots_most words, few, count_most (slot_in words) 0 (i * 64))
 
 pub overflow_add-i : goal.overflow_add-i
-overflow_add-i c = let at_head = c in omega (arith, at_head.loop-i.invariant.0, slots_most at_head.args.words.now)
+overflow_add-i c = omega (arith, c.loop-i.invariant.0, slots_most c.args.words.now)
 
 pub loop-i-smaller : goal.loop-i-smaller
 loop-i-smaller c = let test = c.before.before.before in omega (arith, there test, slots_most test.args.words.now)
@@ -48,21 +46,18 @@ loop-i-smaller c = let test = c.before.before.before in omega (arith, there test
 pub loop-i-preserved : goal.loop-i-preserved
 loop-i-preserved c =
     let test = c.before.before.before in
-    let at_head = test in
-    let words = at_head.args.words.now in
-    let i = at_head.loop-i.i in
-    ((word_there words i (there test)).2, ap₂ (λ (m n : ℕ). m + n) at_head.loop-i.invariant.1 c.count-total.ensures ∙ count_next words i (there test))
+    let words = test.args.words.now in
+    let i = test.loop-i.i in
+    ((word_there words i (there test)).2, ap₂ (λ (m n : ℕ). m + n) test.loop-i.invariant.1 c.count-total.ensures ∙ count_next words i (there test))
 
 pub overflow_cast-result : goal.overflow_cast-result
 overflow_cast-result c =
-    let at_head = c in
-    let words = at_head.args.words.now in
-    let i = at_head.loop-i.i in
-    record { fits = omega (arith, at_head.loop-i.invariant.0, at_head.loop-i.invariant.1, slots_most words, count_most (slot_in words) 0 (i * 64)) }
+    let words = c.args.words.now in
+    let i = c.loop-i.i in
+    record { fits = omega (arith, c.loop-i.invariant.0, c.loop-i.invariant.1, slots_most words, count_most (slot_in words) 0 (i * 64)) }
 
 pub returns : goal.returns
 returns c =
-    let at_head = c in
-    let words = at_head.args.words.now in
-    let past : slots_in words ≤ at_head.loop-i.i * 64 = rw (sym at_head.slots-end.ensures) c.loop-i-test.false in
-    at_head.loop-i.invariant.1 ∙ ap (λ (n : ℕ). count (slot_in words) 0 n) (omega (arith, at_head.loop-i.invariant.0, past))
+    let words = c.args.words.now in
+    let past : slots_in words ≤ c.loop-i.i * 64 = rw (sym c.slots-end.ensures) c.loop-i-test.false in
+    c.loop-i.invariant.1 ∙ ap (λ (n : ℕ). count (slot_in words) 0 n) (omega (arith, c.loop-i.invariant.0, past))

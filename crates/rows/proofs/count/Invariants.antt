@@ -1,11 +1,8 @@
 -- `rows::count` meets its contract: before each word, the total is the count of the slots before it. Assumes nothing.
-use mathlib.Core.Path.{◌≡◌, refl, sym, ap, ap₂, ◌∙◌}
-use Prim.Native.Nat.{ℕ, ◌+◌, ◌-◌, ◌*◌, ◌<◌, ◌≤◌}
-use native.Mathlib.Omega.{arith}
-use borrow.Author.Rules.{rules}
-use Rattle.bits.specs.Range.{count, count_most}
-use Rattle.views.specs.Painting.{slots_in, slot_in, slots_most, word_there}
-use Rattle.rows.proofs.Reasons.{word_most, count_next}
+use mathlib.Core.Path.{◌≡◌}
+use Prim.Native.Nat.{◌-◌, ◌*◌, ◌≤◌}
+use Rattle.bits.specs.Range.{count}
+use Rattle.views.specs.Painting.{slots_in, slot_in}
 use Rattle.rows.proofs.count.Given as goal
 
 abbrev pub invariant-loop-i : goal.invariant-loop-i

@@ -1,6 +1,5 @@
 -- `rows::end_of` meets its contract, with no sum that wraps. Assumes nothing.
 use native.Mathlib.Omega.{arith}
-use borrow.Author.Rules.{rules}
 use Rattle.views.specs.Painting.{end_in}
 use Rattle.rows.proofs.end_of.Goals as goal
 

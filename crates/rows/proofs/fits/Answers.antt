@@ -1,15 +1,14 @@
 -- `rows::fits` meets its contract: the run is free in the words, and before each word none that it reaches is marked. Assumes nothing.
 use mathlib.Core.Path.{◌≡◌, sym, ap, ◌∙◌}
-use Prim.Native.Nat.{ℕ, ◌-◌, ◌*◌, ◌/◌, ◌^◌, ◌≤◌, ◌<◌, ◌+◌}
+use Prim.Native.Nat.{ℕ, ◌-◌, ◌*◌, ◌<◌, ◌+◌}
 use native.Mathlib.Nat.{lt_of_not-le}
 use native.Mathlib.Omega.{arith}
 use lib.Dec.{eqb}
-use borrow.Author.Rules.{rules}
 use borrow.Author.Tests.{eqb-true, eqb-false}
 use Rattle.bits.specs.Range.{either}
 use Rattle.views.specs.Painting.{slots_in, slots_most, end_in}
 use Rattle.views.specs.Full.{marked}
-use Rattle.rows.proofs.Reasons.{before_end, UnmarkedTo, fits_not, fits_none, fits_marked, fits_all}
+use Rattle.rows.proofs.Reasons.{before_end, fits_not, fits_none, fits_marked, fits_all}
 use Rattle.rows.proofs.fits.Goals as goal
 use Rattle.rows.proofs.fits.Lts as lts
 use Rattle.rows.proofs.fits.Reads as reads
@@ -23,9 +22,8 @@ In-loop-i = lts.In-loop tie.the-claims reads.Pre reads.Post goal.the-invariant-l
 
 pub returns-then-not-all_free : goal.returns-then-not-all_free
 returns-then-not-all_free c =
-    let asking = c in
-    let asked = asking.args in
-    fits_not asked.words.now asked.fulls.now asked.start asked.n _ asking.all_free.ensures c.if-not-all_free.true
+    let asked = c.args in
+    fits_not asked.words.now asked.fulls.now asked.start asked.n _ c.all_free.ensures c.if-not-all_free.true
 
 pub returns-then-n-eq0 : goal.returns-then-n-eq0
 returns-then-n-eq0 c =
@@ -34,8 +32,7 @@ returns-then-n-eq0 c =
 
 pub loop-i-init : goal.loop-i-init
 loop-i-init c =
-    let entry = c in
-    (omega arith, omega (arith, entry.ranges.start.fits), λ j l b. absurd (omega arith))
+    (omega arith, omega (arith, c.ranges.start.fits), λ j l b. absurd (omega arith))
 
 pub overflow_mul-i : goal.overflow_mul-i
 overflow_mul-i c = omega (arith, c.loop-i.invariant.1)
@@ -43,25 +40,20 @@ overflow_mul-i c = omega (arith, c.loop-i.invariant.1)
 -- the run's end is that among the words' slots, and the word lies before it
 ends : (c : At-loop-i) → c.end_of-end.result ≡ end_in (slots_in c.args.words.now) c.args.start c.args.n
 ends c =
-    let ending = c in
-    let asked = ending.args in
-    ending.end_of-end.ensures ∙ ap (λ (slots : ℕ). end_in slots asked.start asked.n) ending.slots.ensures
+    let asked = c.args in
+    c.end_of-end.ensures ∙ ap (λ (slots : ℕ). end_in slots asked.start asked.n) c.slots.ensures
 
 within : (c : In-loop-i) → c.loop-i.i * 64 < 16384
 within c =
-    let ending = c in
-    let words = ending.args.words.now in
-    omega (arith, c.loop-i-test.true, (before_end _ _ _ _ ending.end_of-end.ensures).0, ending.slots.ensures, slots_most words)
+    let words = c.args.words.now in
+    omega (arith, c.loop-i-test.true, (before_end _ _ _ _ c.end_of-end.ensures).0, c.slots.ensures, slots_most words)
 
 pub returns-then-marked : goal.returns-then-marked
 returns-then-marked c =
-    let asking = c in
-    let test = asking in
-    let at_head = test.before.before.before.before in
-    let counted = at_head in
-    let asked = counted.args in
-    fits_marked asked.words.now asked.fulls.now asked.start asked.n at_head.loop-i.i at_head.loop-i.invariant.0 (omega (arith, test.loop-i-test.true, ends at_head))
-    counted.if-n-eq0.false (sym asking.marked.ensures ∙ c.if-marked.true)
+    let at_head = c.before.before.before.before in
+    let asked = at_head.args in
+    fits_marked asked.words.now asked.fulls.now asked.start asked.n at_head.loop-i.i at_head.loop-i.invariant.0 (omega (arith, c.loop-i-test.true, ends at_head))
+    at_head.if-n-eq0.false (sym c.marked.ensures ∙ c.if-marked.true)
 
 pub overflow_add-i : goal.overflow_add-i
 overflow_add-i c = omega (arith, within c.before.before.before)
@@ -71,15 +63,13 @@ loop-i-smaller c = omega (arith, c.loop-i-test.true)
 
 pub loop-i-preserved : goal.loop-i-preserved
 loop-i-preserved c =
-    let asking = c in
-    let test = asking.before.before.before in
-    let at_head = test in
-    let fulls = at_head.args.fulls.now in
-    let inv = at_head.loop-i.invariant in
-    let i = at_head.loop-i.i in (
+    let test = c.before.before.before in
+    let fulls = test.args.fulls.now in
+    let inv = test.loop-i.invariant in
+    let i = test.loop-i.i in (
       omega (arith, inv.0),
       omega (arith, within test),
-      λ j l b. either (eqb j i) (λ t. ap (marked fulls) (eqb-true j i t) ∙ sym asking.marked.ensures ∙ c.if-marked.false)
+      λ j l b. either (eqb j i) (λ t. ap (marked fulls) (eqb-true j i t) ∙ sym c.marked.ensures ∙ c.if-marked.false)
           (λ t. inv.2 j l (below j i (eqb-false j i t) b)),
     )
   where
@@ -89,8 +79,6 @@ loop-i-preserved c =
 pub returns : goal.returns
 returns c =
     let at_head = c.before.before in
-    let passed = at_head in
-    let asking = passed in
-    let asked = asking.args in
-    fits_all asked.words.now asked.fulls.now asked.start asked.n _ asking.all_free.ensures passed.if-not-all_free.false at_head.loop-i.i
+    let asked = at_head.args in
+    fits_all asked.words.now asked.fulls.now asked.start asked.n _ at_head.all_free.ensures at_head.if-not-all_free.false at_head.loop-i.i
     (omega (arith, c.loop-i-test.false, ends at_head)) at_head.loop-i.invariant.2

@@ -2,7 +2,6 @@
 use mathlib.Core.Path.{sym}
 use Prim.Native.Nat.{◌/◌, ◌<◌}
 use native.Mathlib.Omega.{arith}
-use borrow.Author.Rules.{rules}
 use Rattle.views.specs.Painting.{slots_in, slot_past, word_there}
 use Rattle.rows.proofs.Reasons.{read_slot}
 use Rattle.rows.proofs.get.Goals as goal
@@ -10,9 +9,8 @@ use Rattle.rows.proofs.get.Goals.{Else-slots-slot}
 
 pub returns-then-slots-slot : goal.returns-then-slots-slot
 returns-then-slots-slot c =
-    let known = c in
-    let asked = known.args in
-    sym (slot_past asked.words.now asked.slot (rw (sym known.slots.ensures) c.if-slots-slot.true))
+    let asked = c.args in
+    sym (slot_past asked.words.now asked.slot (rw (sym c.slots.ensures) c.if-slots-slot.true))
 
 -- the slot lies in the words
 inside : (c : Else-slots-slot) → c.args.slot < slots_in c.args.words.now

@@ -3,12 +3,10 @@ use mathlib.Core.Path.{ap, ◌∙◌}
 use mathlib.Core.Bool.{Bool}
 use Prim.Native.Nat.{◌*◌, ◌%◌, ◌^◌}
 use mir.Val.{bool_byte}
-use borrow.Author.Rules.{rules}
 use Rattle.rows.specs.Rows.{mark_test}
 use Rattle.rows.proofs.Reasons.{shifted_bit}
 use Rattle.rows.proofs.mark_bit.Goals as goal
 
 pub returns : goal.returns
 returns c =
-    let entry = c in
-    ap (λ (b : Bool). bool_byte b * 2 ^ entry.args.i % 2 ^ 16) c.is_marked.ensures ∙ shifted_bit (mark_test entry.args.full entry.args.word) 16 entry.args.i entry.requires
+    ap (λ (b : Bool). bool_byte b * 2 ^ c.args.i % 2 ^ 16) c.is_marked.ensures ∙ shifted_bit (mark_test c.args.full c.args.word) 16 c.args.i c.requires

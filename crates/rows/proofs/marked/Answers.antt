@@ -1,6 +1,5 @@
 -- `rows::marked` meets its contract: the word's place of the word's mark. Assumes nothing.
 use mathlib.Core.Path.{sym}
-use borrow.Author.Rules.{rules}
 use Rattle.rows.proofs.Reasons.{unmarked_past, read_mark}
 use Rattle.rows.proofs.marked.Goals as goal
 

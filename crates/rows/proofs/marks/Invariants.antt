@@ -1,12 +1,9 @@
 -- `rows::marks` meets its contract: before each word, the marks have the bits of the words before it. Assumes nothing.
-use mathlib.Core.Path.{◌≡◌, sym, ap, ap₂, ◌∙◌}
-use Prim.Native.Nat.{◌-◌, ◌<◌, ◌≤◌}
-use native.Mathlib.Omega.{arith}
-use lib.Bits.{bit_or}
-use borrow.Author.Rules.{rules}
-use Rattle.views.specs.Marks.{passes_at, marks_of, part_words}
+use mathlib.Core.Path.{◌≡◌}
+use Prim.Native.Nat.{◌-◌, ◌≤◌}
+use Rattle.views.specs.Marks.{passes_at}
 use Rattle.rows.specs.Rows.{mark_test}
-use Rattle.rows.proofs.Reasons.{first_places, no_places, next_place, part_places, part_there, zero_fails}
+use Rattle.rows.proofs.Reasons.{first_places}
 use Rattle.rows.proofs.marks.Given as goal
 
 abbrev pub invariant-loop-i : goal.invariant-loop-i

@@ -1,44 +1,36 @@
 -- `rows::next_open` meets its contract: each word passed is marked, and each mark is asked once. Assumes nothing.
 use mathlib.Core.Path.{ap, ◌∙◌}
-use Prim.Native.Nat.{ℕ, ◌+◌, ◌-◌, ◌*◌, ◌/◌, ◌%◌, ◌≤◌, ◌<◌}
+use Prim.Native.Nat.{ℕ, ◌+◌, ◌-◌, ◌*◌, ◌/◌, ◌%◌}
 use native.Mathlib.Nat.{le_refl, le_trans}
 use native.Mathlib.Omega.{arith}
 use lib.Dec.{ltb}
-use lib.ListN.{get_or}
-use borrow.Author.Rules.{rules}
 use borrow.Author.Tests.{ltb-true, ltb-false}
 use Rattle.bits.specs.Range.{either}
 use Rattle.bits.specs.Digits.{digit}
 use Rattle.slots.specs.Lowest.{free_from}
-use Rattle.rows.proofs.Reasons.{Marked, unmarked_past, marked_before, open_from_lem, open_at, open_found, open_none}
+use Rattle.rows.proofs.Reasons.{unmarked_past, marked_before, open_from_lem, open_at, open_found, open_none}
 use Rattle.rows.proofs.next_open.Goals as goal
 
 pub loop-i-init : goal.loop-i-init
-loop-i-init c = let entry = c in (le_refl entry.args.from, entry.requires, λ j l b. absurd (omega arith))
+loop-i-init c = (le_refl c.args.from, c.requires, λ j l b. absurd (omega arith))
 
 -- past the marks
 pub returns-then-fulls-i : goal.returns-then-fulls-i
 returns-then-fulls-i c =
-    let test = c in
-    let at_head = test in
-    let asked = at_head.args in
-    let inv = at_head.loop-i.invariant in
-    let i = at_head.loop-i.i in
-    open_found asked.fulls.now asked.from i inv.0 test.loop-i-test.true (unmarked_past asked.fulls.now i c.if-fulls-i.true) inv.2
+    let asked = c.args in
+    let inv = c.loop-i.invariant in
+    let i = c.loop-i.i in
+    open_found asked.fulls.now asked.from i inv.0 c.loop-i-test.true (unmarked_past asked.fulls.now i c.if-fulls-i.true) inv.2
 
 pub returns-then-place-lt-PARTS : goal.returns-then-place-lt-PARTS
 returns-then-place-lt-PARTS c =
-    let asking = c in
-    let read = asking in
-    let test = read in
-    let at_head = test in
-    let asked = at_head.args in
+    let asked = c.args in
     let fulls = asked.fulls.now in
-    let inv = at_head.loop-i.invariant in
-    let i = at_head.loop-i.i in
-    let place = asking.first_free-place.result in
-    let told = asking.first_free-place.ensures ∙ ap (λ (m : ℕ). free_from 6 (digit m) (i % 16)) read.wide.ensures in
-    open_found fulls asked.from (i / 16 * 16 + place) (le_trans inv.0 (open_from_lem fulls i place told)) (omega (arith, test.loop-i-test.true, c.if-place-lt-PARTS.true))
+    let inv = c.loop-i.invariant in
+    let i = c.loop-i.i in
+    let place = c.first_free-place.result in
+    let told = c.first_free-place.ensures ∙ ap (λ (m : ℕ). free_from 6 (digit m) (i % 16)) c.wide.ensures in
+    open_found fulls asked.from (i / 16 * 16 + place) (le_trans inv.0 (open_from_lem fulls i place told)) (omega (arith, c.loop-i-test.true, c.if-place-lt-PARTS.true))
     (open_at fulls i place told c.if-place-lt-PARTS.true)
     (λ j l b. either (ltb j i) (λ t. inv.2 j l (ltb-true j i t)) (λ t. marked_before fulls i place told j (ltb-false j i t) (omega (arith, c.if-place-lt-PARTS.true)) b))
 
@@ -47,23 +39,17 @@ loop-i-smaller c = omega (arith, c.loop-i-test.true)
 
 pub loop-i-preserved : goal.loop-i-preserved
 loop-i-preserved c =
-    let asking = c in
-    let read = asking in
-    let test = read in
-    let at_head = test in
-    let fulls = at_head.args.fulls.now in
-    let inv = at_head.loop-i.invariant in
-    let i = at_head.loop-i.i in
-    let place = asking.first_free-place.result in
-    let told = asking.first_free-place.ensures ∙ ap (λ (m : ℕ). free_from 6 (digit m) (i % 16)) read.wide.ensures in (
+    let fulls = c.args.fulls.now in
+    let inv = c.loop-i.invariant in
+    let i = c.loop-i.i in
+    let place = c.first_free-place.result in
+    let told = c.first_free-place.ensures ∙ ap (λ (m : ℕ). free_from 6 (digit m) (i % 16)) c.wide.ensures in (
       omega (arith, inv.0),
-      omega (arith, test.loop-i-test.true),
+      omega (arith, c.loop-i-test.true),
       λ j l b. either (ltb j i) (λ t. inv.2 j l (ltb-true j i t)) (λ t. marked_before fulls i place told j (ltb-false j i t) b (omega (arith, c.if-place-lt-PARTS.false))),
     )
 
 pub returns : goal.returns
 returns c =
-    let at_head = c in
-    let entry = at_head in
-    let inv = at_head.loop-i.invariant in
-    open_none entry.args.fulls.now entry.args.from entry.requires (λ j l b. inv.2 j l (omega (arith, inv.1, c.loop-i-test.false)))
+    let inv = c.loop-i.invariant in
+    open_none c.args.fulls.now c.args.from c.requires (λ j l b. inv.2 j l (omega (arith, inv.1, c.loop-i-test.false)))

@@ -1,10 +1,9 @@
 -- `rows::paint` meets its contract: before each word, those before it are painted. Assumes nothing.
 use mathlib.Core.Path.{◌≡◌, sym, ap, ◌∙◌}
-use Prim.Native.Nat.{ℕ, ◌-◌, ◌*◌, ◌/◌, ◌^◌, ◌≤◌, ◌<◌}
+use Prim.Native.Nat.{ℕ, ◌-◌, ◌*◌, ◌/◌, ◌≤◌, ◌<◌}
 use native.Mathlib.Omega.{arith}
 use lib.ListN.{length}
-use borrow.Author.Rules.{rules}
-use Rattle.views.specs.Painting.{slots_in, end_in, painted_first, painted_words, painted_length, paint_none, slots_most, word_there}
+use Rattle.views.specs.Painting.{slots_in, end_in, painted_words, painted_length, paint_none, slots_most, word_there}
 use Rattle.rows.proofs.Reasons.{before_end, paint_step, paint_past, ends_within}
 use Rattle.rows.proofs.paint.Goals as goal
 use Rattle.rows.proofs.paint.Lts as lts
@@ -19,9 +18,8 @@ In-loop-i = lts.In-loop tie.the-claims reads.Pre reads.Post goal.the-invariant-l
 
 pub loop-i-init : goal.loop-i-init
 loop-i-init c =
-    let entry = c in
-    let asked = entry.args in
-    (omega arith, omega (arith, entry.ranges.start.fits), sym (paint_none asked.words.now asked.start (end_in (slots_in asked.words.now) asked.start asked.n) asked.used (asked.start / 64) (omega arith)))
+    let asked = c.args in
+    (omega arith, omega (arith, c.ranges.start.fits), sym (paint_none asked.words.now asked.start (end_in (slots_in asked.words.now) asked.start asked.n) asked.used (asked.start / 64) (omega arith)))
 
 pub overflow_mul-i : goal.overflow_mul-i
 overflow_mul-i c = omega (arith, c.loop-i.invariant.1)
@@ -29,8 +27,7 @@ overflow_mul-i c = omega (arith, c.loop-i.invariant.1)
 -- the word is one of the words, and there are as many as there were
 there : (c : In-loop-i) → c.loop-i.i * 64 < slots_in c.args.words.now
 there c =
-    let ending = c in
-    omega (arith, c.loop-i-test.true, (before_end _ _ _ _ ending.end_of-end.ensures).0, ending.slots.ensures)
+    omega (arith, c.loop-i-test.true, (before_end _ _ _ _ c.end_of-end.ensures).0, c.slots.ensures)
 
 as_long : (c : At-loop-i) → length c.loop-i.words ≡ length c.args.words.now
 as_long c =
@@ -45,8 +42,7 @@ bounds-words-i c = let test = c.before.before in rw (as_long test.before) (word_
 
 pub part_mask-requires : goal.part_mask-requires
 part_mask-requires c =
-    let ending = c in
-    (c.loop-i-test.true, omega (arith, (before_end _ _ _ _ ending.end_of-end.ensures).0, ending.slots.ensures, slots_most ending.args.words.now))
+    (c.loop-i-test.true, omega (arith, (before_end _ _ _ _ c.end_of-end.ensures).0, c.slots.ensures, slots_most c.args.words.now))
 
 pub offset_bounds-words-i-in-loop-i : goal.offset_bounds-words-i-in-loop-i
 offset_bounds-words-i-in-loop-i c = omega (arith, (word_there _ _ (there c.before.before.before)).1)
@@ -62,17 +58,14 @@ loop-i-smaller c = omega arith
 
 pub loop-i-preserved : goal.loop-i-preserved
 loop-i-preserved c =
-    let masked = c in
-    let test = masked.before.before.before in
-    let at_head = test in
-    let ending = at_head in
-    let asked = ending.args in
+    let test = c.before.before.before in
+    let asked = test.args in
     let words = asked.words.now in
-    let inv = at_head.loop-i.invariant in (
+    let inv = test.loop-i.invariant in (
       omega (arith, inv.0),
       omega (arith, (word_there _ _ (there test)).1),
-      paint_step words asked.start (end_in (slots_in words) asked.start asked.n) asked.used at_head.loop-i.words at_head.loop-i.i ending.end_of-end.result _ _
-          inv.0 test.loop-i-test.true inv.2 (ending.end_of-end.ensures ∙ ap (λ (slots : ℕ). end_in slots asked.start asked.n) ending.slots.ensures) masked.part_mask.ensures c.paint.ensures,
+      paint_step words asked.start (end_in (slots_in words) asked.start asked.n) asked.used test.loop-i.words test.loop-i.i test.end_of-end.result _ _
+          inv.0 test.loop-i-test.true inv.2 (test.end_of-end.ensures ∙ ap (λ (slots : ℕ). end_in slots asked.start asked.n) test.slots.ensures) c.part_mask.ensures c.paint.ensures,
     )
 
 pub shape_of-words : goal.shape_of-words
@@ -81,11 +74,9 @@ shape_of-words c = as_long c.before
 pub returns : goal.returns
 unfolding painted_words
 returns c =
-    let at_head = c in
-    let ending = at_head in
-    let asked = ending.args in
+    let asked = c.args in
     let words = asked.words.now in
-    let i = at_head.loop-i.i in
+    let i = c.loop-i.i in
     let e = end_in (slots_in words) asked.start asked.n in
-    let past : e ≤ i * 64 = rw (sym ending.slots.ensures, sym ending.end_of-end.ensures) c.loop-i-test.false in
-    at_head.loop-i.invariant.2 ∙ paint_past words asked.start e asked.used i past (ends_within words asked.start asked.n)
+    let past : e ≤ i * 64 = rw (sym c.slots.ensures, sym c.end_of-end.ensures) c.loop-i-test.false in
+    c.loop-i.invariant.2 ∙ paint_past words asked.start e asked.used i past (ends_within words asked.start asked.n)

@@ -1,11 +1,7 @@
 -- `rows::paint` meets its contract: before each word, those before it are painted. Assumes nothing.
-use mathlib.Core.Path.{◌≡◌, sym, ap, ◌∙◌}
-use Prim.Native.Nat.{ℕ, ◌-◌, ◌*◌, ◌/◌, ◌^◌, ◌≤◌, ◌<◌}
-use native.Mathlib.Omega.{arith}
-use lib.ListN.{length}
-use borrow.Author.Rules.{rules}
-use Rattle.views.specs.Painting.{slots_in, end_in, painted_first, painted_words, painted_length, paint_none, slots_most, word_there}
-use Rattle.rows.proofs.Reasons.{before_end, paint_step, paint_past, ends_within}
+use mathlib.Core.Path.{◌≡◌}
+use Prim.Native.Nat.{◌-◌, ◌*◌, ◌/◌, ◌^◌, ◌≤◌, ◌<◌}
+use Rattle.views.specs.Painting.{slots_in, end_in, painted_first}
 use Rattle.rows.proofs.paint.Given as goal
 
 abbrev pub invariant-loop-i : goal.invariant-loop-i

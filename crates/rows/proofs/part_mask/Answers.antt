@@ -1,7 +1,6 @@
 -- `rows::part_mask` meets its contract: the run begins before the word, or in it. Assumes nothing.
 use mathlib.Core.Path.{◌∙◌}
 use native.Mathlib.Omega.{arith}
-use borrow.Author.Rules.{rules}
 use Rattle.rows.proofs.Reasons.{part_to_end, part_inside, part_none}
 use Rattle.rows.proofs.part_mask.Goals as goal
 

@@ -1,6 +1,5 @@
 -- `rows::slots` meets its contract: 64 for each word, of 256 at most. Assumes nothing.
 use native.Mathlib.Omega.{arith}
-use borrow.Author.Rules.{rules}
 use Rattle.views.specs.Painting.{slots_in}
 use Rattle.rows.proofs.slots.Goals as goal
 

@@ -1,12 +1,11 @@
 -- `rows::touched` meets its contract: before each word, the bits of the reached words before it are up to date. Assumes nothing.
-use mathlib.Core.Path.{◌≡◌, sym, ap, ◌∙◌}
-use Prim.Native.Nat.{ℕ, ◌*◌, ◌-◌, ◌/◌, ◌^◌, ◌≤◌, ◌<◌}
+use mathlib.Core.Path.{sym, ap, ◌∙◌}
+use Prim.Native.Nat.{ℕ, ◌*◌, ◌-◌, ◌/◌, ◌≤◌, ◌<◌}
 use native.Mathlib.Omega.{arith}
-use borrow.Author.Rules.{rules}
 use Rattle.views.specs.Painting.{end_in}
 use Rattle.rows.specs.Rows.{mark_test, with_bit}
 use Rattle.views.specs.Marks.{passes_at, part_words, touched_marks}
-use Rattle.rows.proofs.Reasons.{before_end, part_there, part_most, touched_first, touch_none, touch_on, touch_all}
+use Rattle.rows.proofs.Reasons.{before_end, part_there, part_most, touch_none, touch_on, touch_all}
 use Rattle.rows.proofs.touched.Goals as goal
 use Rattle.rows.proofs.touched.Lts as lts
 use Rattle.rows.proofs.touched.Reads as reads
@@ -20,9 +19,8 @@ overflow_mul-words_of c = omega (arith, c.words_of.ensures, part_most c.args.par
 
 pub loop-i-init : goal.loop-i-init
 loop-i-init c =
-    let entry = c in
-    let asked = entry.args in
-    (omega arith, omega (arith, entry.ranges.start.fits), touch_none (mark_test asked.full) asked.part.now asked.marks asked.start (end_in (part_words asked.part.now * 64) asked.start asked.n) entry.ranges.marks.fits (asked.start / 64) (omega arith))
+    let asked = c.args in
+    (omega arith, omega (arith, c.ranges.start.fits), touch_none (mark_test asked.full) asked.part.now asked.marks asked.start (end_in (part_words asked.part.now * 64) asked.start asked.n) c.ranges.marks.fits (asked.start / 64) (omega arith))
 
 pub overflow_mul-i : goal.overflow_mul-i
 overflow_mul-i c = omega (arith, c.loop-i.invariant.1)
@@ -30,16 +28,14 @@ overflow_mul-i c = omega (arith, c.loop-i.invariant.1)
 -- the word is one of the part's
 there : (c : In-loop-i) → c.loop-i.i < part_words c.args.part.now
 there c =
-    let ending = c in
-    omega (arith, c.loop-i-test.true, (before_end _ _ _ _ ending.end_of-end.ensures).0, ending.words_of.ensures)
+    omega (arith, c.loop-i-test.true, (before_end _ _ _ _ c.end_of-end.ensures).0, c.words_of.ensures)
 
 pub offset_bounds-part-i : goal.offset_bounds-part-i
 offset_bounds-part-i c = omega (arith, (part_there _ _ (there c.before)).1)
 
 pub bounds-part-i : goal.bounds-part-i
 bounds-part-i c =
-    let at_head = c in
-    (part_there at_head.args.part.now at_head.loop-i.i (there c.before.before)).0
+    (part_there c.args.part.now c.loop-i.i (there c.before.before)).0
 
 pub with_bit-updated-requires : goal.with_bit-updated-requires
 with_bit-updated-requires c = (part_there _ _ (there c.before.before)).1
@@ -53,30 +49,26 @@ loop-i-smaller c = omega arith
 pub loop-i-preserved : goal.loop-i-preserved
 loop-i-preserved c =
     let test = c.before.before.before in
-    let at_head = test in
-    let ending = at_head in
-    let asked = ending.args in
+    let asked = test.args in
     let part = asked.part.now in
-    let i = at_head.loop-i.i in
-    let inv = at_head.loop-i.invariant in (
+    let i = test.loop-i.i in
+    let inv = test.loop-i.invariant in (
       omega (arith, inv.0),
       omega (arith, (part_there _ _ (there test)).1),
       c.with_bit-updated.ensures ∙ ap (λ (m : ℕ). with_bit m (passes_at (mark_test asked.full) part i) i) inv.2
-          ∙ touch_on (mark_test asked.full) part asked.marks asked.start (end_in (part_words part * 64) asked.start asked.n) i inv.0 (ends-later test),
+          ∙ touch_on (mark_test asked.full) part asked.marks asked.start (end_in (part_words part * 64) asked.start asked.n) i inv.0 (ends_later test),
     )
   where
-    ends-later : (c : In-loop-i)
+    ends_later : (c : In-loop-i)
         → c.loop-i.i * 64 < end_in (part_words c.args.part.now * 64) c.args.start c.args.n
-    ends-later c = rw (sym c.words_of.ensures, sym c.end_of-end.ensures) c.loop-i-test.true
+    ends_later c = rw (sym c.words_of.ensures, sym c.end_of-end.ensures) c.loop-i-test.true
 
 pub returns : goal.returns
 unfolding touched_marks
 returns c =
-    let at_head = c in
-    let ending = at_head in
-    let asked = ending.args in
+    let asked = c.args in
     let part = asked.part.now in
-    let i = at_head.loop-i.i in
+    let i = c.loop-i.i in
     let e = end_in (part_words part * 64) asked.start asked.n in
-    let past : e ≤ i * 64 = rw (sym ending.words_of.ensures, sym ending.end_of-end.ensures) c.loop-i-test.false in
-    at_head.loop-i.invariant.2 ∙ touch_all (mark_test asked.full) part asked.marks asked.start e i past
+    let past : e ≤ i * 64 = rw (sym c.words_of.ensures, sym c.end_of-end.ensures) c.loop-i-test.false in
+    c.loop-i.invariant.2 ∙ touch_all (mark_test asked.full) part asked.marks asked.start e i past

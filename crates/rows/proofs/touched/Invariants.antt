@@ -1,12 +1,10 @@
 -- `rows::touched` meets its contract: before each word, the bits of the reached words before it are up to date. Assumes nothing.
-use mathlib.Core.Path.{◌≡◌, sym, ap, ◌∙◌}
-use Prim.Native.Nat.{ℕ, ◌*◌, ◌-◌, ◌/◌, ◌^◌, ◌≤◌, ◌<◌}
-use native.Mathlib.Omega.{arith}
-use borrow.Author.Rules.{rules}
+use mathlib.Core.Path.{◌≡◌}
+use Prim.Native.Nat.{◌*◌, ◌-◌, ◌/◌, ◌^◌, ◌≤◌, ◌<◌}
 use Rattle.views.specs.Painting.{end_in}
-use Rattle.rows.specs.Rows.{mark_test, with_bit}
-use Rattle.views.specs.Marks.{passes_at, part_words, touched_marks}
-use Rattle.rows.proofs.Reasons.{before_end, part_there, part_most, touched_first, touch_none, touch_on, touch_all}
+use Rattle.rows.specs.Rows.{mark_test}
+use Rattle.views.specs.Marks.{part_words}
+use Rattle.rows.proofs.Reasons.{touched_first}
 use Rattle.rows.proofs.touched.Given as goal
 
 abbrev pub invariant-loop-i : goal.invariant-loop-i

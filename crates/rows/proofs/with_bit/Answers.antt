@@ -5,7 +5,6 @@ use native.Mathlib.Omega.{arith}
 use lib.Bits.{bit_and, bit_or}
 use lib.Pow.{shl_exact}
 use native.Mathlib.Nat.{one-mul}
-use borrow.Author.Rules.{rules}
 use Rattle.rows.specs.Rows.{mark_test}
 use Rattle.rows.proofs.Reasons.{replaced}
 use Rattle.rows.proofs.with_bit.Goals as goal

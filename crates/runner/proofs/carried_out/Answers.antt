@@ -1,6 +1,5 @@
 -- `runner::carried_out` meets its contract: a call as the tree answers it, and any other field by its line. Assumes nothing.
 use mathlib.Core.Path.{◌≡◌, sym, ap, ◌∙◌}
-use lib.ListN.{take}
 use Rattle.slots.specs.Plain.{Asked, call_of}
 use Rattle.tree.specs.declared.Tree.{Tree}
 use Rattle.tree.specs.declared.Changed.{Changed}
@@ -11,7 +10,6 @@ use Rattle.runner.specs.declared.fields.Field.{Field as CodeField}
 use Rattle.report.specs.Fields.{call}
 use Rattle.report.specs.Report.{said, carried}
 use Rattle.runner.specs.Inner.{field_says, SaidSays, StepSays}
-use borrow.Author.Rules.{rules}
 use Rattle.runner.proofs.carried_out.Goals as goal
 
 -- a call's line and map are those of the step

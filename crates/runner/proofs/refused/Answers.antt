@@ -1,5 +1,4 @@
 -- `runner::refused` meets its contract: the number, and the empty map. Assumes nothing.
-use borrow.Author.Rules.{rules}
 use Rattle.answers.specs.Said.{refused}
 use Rattle.answers.specs.Refusals.{number_of}
 use Rattle.runner.proofs.refused.Goals as goal

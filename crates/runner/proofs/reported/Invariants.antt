@@ -1,9 +1,7 @@
 -- `runner::reported` meets its contract. The loop's invariant is `Running`, and its measure is what is left of the record. Assumes nothing.
 use Prim.Native.Nat.{◌-◌}
-use native.Mathlib.Omega.{arith}
 use lib.ListN.{length}
-use borrow.Author.Rules.{rules}
-use Rattle.runner.proofs.Running.{Running, starts, line_fits, turns, not_refused, last_fits, keeps_length, finishes}
+use Rattle.runner.proofs.Running.{Running}
 use Rattle.runner.proofs.reported.Given as goal
 
 abbrev pub invariant-loop-next : goal.invariant-loop-next

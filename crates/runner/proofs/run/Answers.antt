@@ -1,10 +1,8 @@
 -- `runner::run` meets its contract: what the run with the map says and writes. Assumes nothing.
-use borrow.Author.Rules.{rules}
 use Rattle.report.specs.Demands.{run_map_runs}
 use Rattle.runner.proofs.run.Goals as goal
 
 pub returns : goal.returns
 returns c =
-    let ran = c in
-    let asked = ran.args in
-    run_map_runs asked.«record».now asked.report.now ran.run_map-ran.result.answer _ _ ran.run_map-ran.ensures
+    let asked = c.args in
+    run_map_runs asked.«record».now asked.report.now c.run_map-ran.result.answer _ _ c.run_map-ran.ensures

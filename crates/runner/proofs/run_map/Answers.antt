@@ -1,6 +1,5 @@
 -- `runner::run_map` meets its contract: the two refusals in their order, and else what `reported` says. Assumes nothing.
 use mathlib.Core.Path.{sym, ◌∙◌}
-use borrow.Author.Rules.{rules}
 use Rattle.report.specs.Report.{ran_too_long, ran_too_short, map_refused}
 use Rattle.runner.proofs.run_map.Goals as goal
 

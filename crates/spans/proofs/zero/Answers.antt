@@ -1,13 +1,11 @@
 -- `spans::zero` meets its contract. The loop's invariant: the bytes below i are zeros, and the others are as they came. The measure is what is left
 -- of the part. Assumes nothing.
 use mathlib.Core.Path.{◌≡◌, refl, ◌∙◌}
-use mathlib.Core.List.{List, ◌++◌, append-nil}
-use Prim.Native.Nat.{ℕ, ◌-◌, ◌≤◌}
+use mathlib.Core.List.{append-nil}
 use native.Mathlib.Omega.{arith}
-use lib.ListN.{length, drop, replicate, length-set}
+use lib.ListN.{length, length-set}
 use lib.Seq.{drop-length}
 use borrow.Author.Fill.{fill_none, fill_more}
-use Rattle.spans.proofs.zero.Invariants.{Zeroing}
 use Rattle.spans.proofs.zero.Goals as goal
 
 pub loop-i-init : goal.loop-i-init

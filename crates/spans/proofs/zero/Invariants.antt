@@ -1,12 +1,9 @@
 -- `spans::zero` meets its contract. The loop's invariant: the bytes below i are zeros, and the others are as they came. The measure is what is left
 -- of the part. Assumes nothing.
-use mathlib.Core.Path.{◌≡◌, refl, ◌∙◌}
-use mathlib.Core.List.{List, ◌++◌, append-nil}
+use mathlib.Core.Path.{◌≡◌}
+use mathlib.Core.List.{List, ◌++◌}
 use Prim.Native.Nat.{ℕ, ◌-◌, ◌≤◌}
-use native.Mathlib.Omega.{arith}
-use lib.ListN.{length, drop, replicate, length-set}
-use lib.Seq.{drop-length}
-use borrow.Author.Fill.{fill_none, fill_more}
+use lib.ListN.{length, drop, replicate}
 use Rattle.spans.proofs.zero.Given as goal
 
 pub record Zeroing (before present : List ℕ) (i : ℕ) : Type 0 where

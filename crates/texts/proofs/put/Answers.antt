@@ -1,12 +1,10 @@
 -- `texts::put` meets its contract: the part that comes back holds the words. Assumes nothing.
-use mathlib.Core.Path.{◌≡◌, sym, ap₂, ◌∙◌}
-use mathlib.Core.List.{List, ◌++◌, append-nil}
+use mathlib.Core.Path.{◌≡◌, sym, ◌∙◌}
+use mathlib.Core.List.{List, ◌++◌}
 use Prim.Native.Nat.{ℕ, ◌+◌, ◌-◌, ◌≤◌}
 use native.Mathlib.Omega.{arith}
-use lib.ListN.{length, take, drop, drop_of_length-le}
-use lib.Seq.{take-length}
-use borrow.Rule.Slice.PartMut.{mid_of, put_mid, mid_len, Post-is}
-use borrow.Author.Rules.{rules}
+use lib.ListN.{length, take}
+use borrow.Rule.Slice.PartMut.{put_mid, Post-is}
 use Rattle.bits.specs.Buffers.{put_at}
 use Rattle.texts.specs.Texts.{put_fits, put_no_room}
 use Rattle.texts.proofs.put.Goals as goal
@@ -32,8 +30,7 @@ returns-then-buffer-at-2 c =
 
 pub returns : goal.returns
 returns c =
-    let room = c in
-    let asked = room.args in
+    let asked = c.args in
     let fits : asked.at + length asked.words.now ≤ length asked.buffer.now = omega arith in
     (λ i. (asked.at + length asked.words.now, put_words asked.buffer.now asked.words.now _ asked.at fits c.copy_from_slice.ensures.after i))
     ∙ sym (put_fits asked.at asked.buffer.now asked.words.now fits)

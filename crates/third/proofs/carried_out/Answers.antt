@@ -1,7 +1,6 @@
 -- `third::carried_out` meets its contract: on a refusal the very words and fields, and else the painted ones. Assumes nothing.
 use mathlib.Core.Path.{sym, ap, ◌∙◌}
 use lib.ListN.{length}
-use borrow.Author.Rules.{rules}
 use Rattle.answers.specs.Answers.{left_by}
 use Rattle.answers.specs.declared.Answer.{Answer}
 use Rattle.views.specs.Painting.{painted_long}
@@ -18,16 +17,11 @@ returns-in-Refused c =
 
 pub renew-requires : goal.renew-requires
 renew-requires c =
-    let painting = c in
-    let entry = painting in
-    let asked = entry.args in
-    (ap length painting.paint.ensures ∙ painted_long asked.words.now asked.start asked.n asked.used ∙ entry.requires.0, entry.requires.1, entry.requires.2, entry.requires.3)
+    let asked = c.args in
+    (ap length c.paint.ensures ∙ painted_long asked.words.now asked.start asked.n asked.used ∙ c.requires.0, c.requires.1, c.requires.2, c.requires.3)
 
 pub returns : goal.returns
 returns c =
-    let renewing = c in
-    let painting = renewing in
-    let kept = painting in
-    let asked = kept.args in
+    let asked = c.args in
     let t = third_of asked.words.now asked.summaries.now asked.fulls.now asked.counts.now asked.summary in
-    left_as_judged asked.judged kept.in_default.not-Refused t asked.start asked.n asked.used _ _ _ _ _ painting.paint.ensures renewing.renew.ensures c.top.ensures
+    left_as_judged asked.judged c.in_default.not-Refused t asked.start asked.n asked.used _ _ _ _ _ c.paint.ensures c.renew.ensures c.top.ensures

@@ -1,6 +1,5 @@
 -- `third::judged_change` meets its contract: 1 where the map is not sound, and else what the judge of claim and free says. Assumes nothing.
 use mathlib.Core.Path.{sym, ◌∙◌}
-use borrow.Author.Rules.{rules}
 use Rattle.slots.proofs.Outcomes.{shown_unsound, shown_sound}
 use Rattle.third.specs.Layout.{third_view, third_of}
 use Rattle.third.proofs.judged_change.Goals as goal
@@ -10,13 +9,10 @@ sound-requires c = c.requires
 
 pub returns-then-not-sound : goal.returns-then-not-sound
 returns-then-not-sound c =
-    let tested = c in
-    let asked = tested.args in
-    sym (shown_unsound third_view (third_of asked.words.now asked.summaries.now asked.fulls.now asked.counts.now asked.summary) _ _ tested.sound.ensures c.if-not-sound.true)
+    let asked = c.args in
+    sym (shown_unsound third_view (third_of asked.words.now asked.summaries.now asked.fulls.now asked.counts.now asked.summary) _ _ c.sound.ensures c.if-not-sound.true)
 
 pub returns : goal.returns
 returns c =
-    let first = c in
-    let tested = first in
-    let asked = tested.args in
-    c.change.ensures ∙ sym (shown_sound third_view (third_of asked.words.now asked.summaries.now asked.fulls.now asked.counts.now asked.summary) _ _ tested.sound.ensures first.if-not-sound.false)
+    let asked = c.args in
+    c.change.ensures ∙ sym (shown_sound third_view (third_of asked.words.now asked.summaries.now asked.fulls.now asked.counts.now asked.summary) _ _ c.sound.ensures c.if-not-sound.false)

@@ -1,17 +1,16 @@
 -- `third::renew` meets its contract: before each tree, the fields of the reached trees before it are made anew. Assumes nothing.
-use mathlib.Core.Path.{◌≡◌, ap, ap₂, ◌∙◌}
+use mathlib.Core.Path.{ap, ap₂, ◌∙◌}
 use mathlib.Core.List.{List}
-use Prim.Native.Nat.{ℕ, ◌-◌, ◌*◌, ◌/◌, ◌^◌, ◌≤◌, ◌<◌}
+use Prim.Native.Nat.{ℕ, ◌-◌, ◌*◌, ◌/◌, ◌≤◌, ◌<◌}
 use native.Mathlib.Omega.{arith}
 use lib.ListN.{set}
-use borrow.Author.Rules.{rules}
 use Rattle.views.specs.Painting.{end_in}
 use Rattle.views.specs.Summary.{summary_of}
 use Rattle.views.specs.Full.{full_of}
 use Rattle.views.specs.Count.{count_of}
 use Rattle.rows.proofs.Reasons.{before_end}
 use Rattle.tree.specs.declared.Stored.{Stored}
-use Rattle.third.proofs.Renewing.{renewed_first, renew_none, renew_on, renew_all}
+use Rattle.third.proofs.Renewing.{renew_none, renew_on, renew_all}
 use Rattle.third.proofs.renew.Goals as goal
 use Rattle.third.proofs.renew.Lts as lts
 use Rattle.third.proofs.renew.Reads as reads
@@ -22,16 +21,15 @@ In-loop-i = lts.In-loop tie.the-claims reads.Pre reads.Post goal.the-invariant-l
 
 pub loop-i-init : goal.loop-i-init
 loop-i-init c =
-    let entry = c in
-    let asked = entry.args in
+    let asked = c.args in
     let words = asked.words.now in
     let start = asked.start in
     let e = end_in 16384 start asked.n in (
       omega arith,
-      omega (arith, entry.ranges.start.fits),
-      renew_none summary_of words asked.summaries.now start e entry.requires.1 (start / 1024) (omega arith),
-      renew_none full_of words asked.fulls.now start e entry.requires.2 (start / 1024) (omega arith),
-      renew_none count_of words asked.counts.now start e entry.requires.3 (start / 1024) (omega arith),
+      omega (arith, c.ranges.start.fits),
+      renew_none summary_of words asked.summaries.now start e c.requires.1 (start / 1024) (omega arith),
+      renew_none full_of words asked.fulls.now start e c.requires.2 (start / 1024) (omega arith),
+      renew_none count_of words asked.counts.now start e c.requires.3 (start / 1024) (omega arith),
     )
 
 pub overflow_mul-i : goal.overflow_mul-i
@@ -71,15 +69,13 @@ loop-i-smaller c = omega arith
 pub loop-i-preserved : goal.loop-i-preserved
 loop-i-preserved c =
     let test = c.before.before.before.before.before in
-    let at_head = test in
-    let ending = at_head in
-    let asked = ending.args in
+    let asked = test.args in
     let words = asked.words.now in
     let start = asked.start in
-    let i = at_head.loop-i.i in
-    let inv = at_head.loop-i.invariant in
+    let i = test.loop-i.i in
+    let inv = test.loop-i.invariant in
     let e = end_in 16384 start asked.n in
-    let reached : i * 1024 < e = omega (arith, ending.end_of-end.ensures, test.loop-i-test.true) in (
+    let reached : i * 1024 < e = omega (arith, test.end_of-end.ensures, test.loop-i-test.true) in (
       omega (arith, inv.0),
       omega (arith, there test),
       ap₂ (λ (fs : List ℕ) (f : ℕ). set fs i f) inv.2 (ap (λ (s : Stored). s.summary) c.tree_stored-stored.ensures)
@@ -92,13 +88,11 @@ loop-i-preserved c =
 
 pub returns : goal.returns
 returns c =
-    let at_head = c in
-    let ending = at_head in
-    let asked = ending.args in
+    let asked = c.args in
     let words = asked.words.now in
-    let i = at_head.loop-i.i in
-    let inv = at_head.loop-i.invariant in
-    let past : end_in 16384 asked.start asked.n ≤ i * 1024 = omega (arith, ending.end_of-end.ensures, c.loop-i-test.false) in (
+    let i = c.loop-i.i in
+    let inv = c.loop-i.invariant in
+    let past : end_in 16384 asked.start asked.n ≤ i * 1024 = omega (arith, c.end_of-end.ensures, c.loop-i-test.false) in (
       inv.2 ∙ renew_all summary_of words asked.summaries.now asked.start asked.n i past,
       inv.3 ∙ renew_all full_of words asked.fulls.now asked.start asked.n i past,
       inv.4 ∙ renew_all count_of words asked.counts.now asked.start asked.n i past,

@@ -1,17 +1,11 @@
 -- `third::renew` meets its contract: before each tree, the fields of the reached trees before it are made anew. Assumes nothing.
-use mathlib.Core.Path.{◌≡◌, ap, ap₂, ◌∙◌}
-use mathlib.Core.List.{List}
-use Prim.Native.Nat.{ℕ, ◌-◌, ◌*◌, ◌/◌, ◌^◌, ◌≤◌, ◌<◌}
-use native.Mathlib.Omega.{arith}
-use lib.ListN.{set}
-use borrow.Author.Rules.{rules}
+use mathlib.Core.Path.{◌≡◌}
+use Prim.Native.Nat.{◌-◌, ◌*◌, ◌/◌, ◌^◌, ◌≤◌, ◌<◌}
 use Rattle.views.specs.Painting.{end_in}
 use Rattle.views.specs.Summary.{summary_of}
 use Rattle.views.specs.Full.{full_of}
 use Rattle.views.specs.Count.{count_of}
-use Rattle.rows.proofs.Reasons.{before_end}
-use Rattle.tree.specs.declared.Stored.{Stored}
-use Rattle.third.proofs.Renewing.{renewed_first, renew_none, renew_on, renew_all}
+use Rattle.third.proofs.Renewing.{renewed_first}
 use Rattle.third.proofs.renew.Given as goal
 
 abbrev pub invariant-loop-i : goal.invariant-loop-i

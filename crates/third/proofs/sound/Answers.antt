@@ -1,14 +1,12 @@
 -- `third::sound` meets its contract: before each tree, those before it are sound. Assumes nothing.
 use mathlib.Core.Path.{◌≡◌, sym, ◌∙◌}
 use mathlib.Core.Bool.{true}
-use Prim.Native.Nat.{ℕ, ◌-◌, ◌≤◌, ◌<◌}
+use Prim.Native.Nat.{◌-◌}
 use native.Mathlib.Omega.{arith}
 use lib.Dec.{ltb}
-use borrow.Author.Rules.{rules}
-use borrow.Author.Tests.{ltb-true, ltb-false, not-true, not-false}
+use borrow.Author.Tests.{ltb-true, ltb-false}
 use Rattle.bits.specs.Range.{either}
-use Rattle.tree.specs.Layout.{tree_view}
-use Rattle.third.specs.Layout.{third_of, tree_at, is_third_means}
+use Rattle.third.specs.Layout.{third_of, is_third_means}
 use Rattle.third.proofs.Outcomes.{unsound_at, sound_shown}
 use Rattle.third.proofs.sound.Goals as goal
 
@@ -35,18 +33,12 @@ bounds-counts-i c = omega arith
 
 pub tree_sound-requires : goal.tree_sound-requires
 tree_sound-requires c =
-    let test = c in
-    let entry = test in
-    (test.loop-i-test.true, ((is_third_means (third_of entry.args.words.now entry.args.summaries.now entry.args.fulls.now entry.args.counts.now entry.args.summary)).0 entry.requires).0)
+    (c.loop-i-test.true, ((is_third_means (third_of c.args.words.now c.args.summaries.now c.args.fulls.now c.args.counts.now c.args.summary)).0 c.requires).0)
 
 pub returns-then-not-tree_sound : goal.returns-then-not-tree_sound
 returns-then-not-tree_sound c =
-    let told = c in
-    let test = told in
-    let at_head = test in
-    let entry = at_head in
-    let t = third_of entry.args.words.now entry.args.summaries.now entry.args.fulls.now entry.args.counts.now entry.args.summary in
-    unsound_at t entry.requires at_head.loop-i.i test.loop-i-test.true (sym told.tree_sound.ensures ∙ c.if-not-tree_sound.true)
+    let t = third_of c.args.words.now c.args.summaries.now c.args.fulls.now c.args.counts.now c.args.summary in
+    unsound_at t c.requires c.loop-i.i c.loop-i-test.true (sym c.tree_sound.ensures ∙ c.if-not-tree_sound.true)
 
 pub overflow_add-i : goal.overflow_add-i
 overflow_add-i c = omega arith
@@ -56,19 +48,13 @@ loop-i-smaller c = omega arith
 
 pub loop-i-preserved : goal.loop-i-preserved
 loop-i-preserved c =
-    let told = c in
-    let test = told in
-    let at_head = test in
-    let i = at_head.loop-i.i in (
+    let i = c.loop-i.i in (
       omega arith,
-      λ j l. either (ltb j i) (λ t. at_head.loop-i.invariant.1 j (ltb-true j i t))
-          (λ t. let here : j ≡ i = omega (arith, ltb-false j i t, l) in rw here (sym told.tree_sound.ensures ∙ c.if-not-tree_sound.false)),
+      λ j l. either (ltb j i) (λ t. c.loop-i.invariant.1 j (ltb-true j i t))
+          (λ t. let here : j ≡ i = omega (arith, ltb-false j i t, l) in rw here (sym c.tree_sound.ensures ∙ c.if-not-tree_sound.false)),
     )
 
 pub returns : goal.returns
 returns c =
-    let ended = c in
-    let at_head = ended in
-    let entry = at_head in
-    let t = third_of entry.args.words.now entry.args.summaries.now entry.args.fulls.now entry.args.counts.now entry.args.summary in
-    sound_shown t entry.requires (λ j l. at_head.loop-i.invariant.1 j (omega (arith, at_head.loop-i.invariant.0, ended.loop-i-test.false, l))) _ c.top.ensures
+    let t = third_of c.args.words.now c.args.summaries.now c.args.fulls.now c.args.counts.now c.args.summary in
+    sound_shown t c.requires (λ j l. c.loop-i.invariant.1 j (omega (arith, c.loop-i.invariant.0, c.loop-i-test.false, l))) _ c.top.ensures

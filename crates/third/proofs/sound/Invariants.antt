@@ -1,15 +1,9 @@
 -- `third::sound` meets its contract: before each tree, those before it are sound. Assumes nothing.
-use mathlib.Core.Path.{◌≡◌, sym, ◌∙◌}
+use mathlib.Core.Path.{◌≡◌}
 use mathlib.Core.Bool.{true}
 use Prim.Native.Nat.{ℕ, ◌-◌, ◌≤◌, ◌<◌}
-use native.Mathlib.Omega.{arith}
-use lib.Dec.{ltb}
-use borrow.Author.Rules.{rules}
-use borrow.Author.Tests.{ltb-true, ltb-false, not-true, not-false}
-use Rattle.bits.specs.Range.{either}
 use Rattle.tree.specs.Layout.{tree_view}
-use Rattle.third.specs.Layout.{third_of, tree_at, is_third_means}
-use Rattle.third.proofs.Outcomes.{unsound_at, sound_shown}
+use Rattle.third.specs.Layout.{third_of, tree_at}
 use Rattle.third.proofs.sound.Given as goal
 
 abbrev pub invariant-loop-i : goal.invariant-loop-i

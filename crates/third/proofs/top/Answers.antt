@@ -1,9 +1,8 @@
 -- `third::top` meets its contract: before each tree, the summary has the bits of the trees before it. Assumes nothing.
-use mathlib.Core.Path.{◌≡◌, ap, ap₂, ◌∙◌}
-use Prim.Native.Nat.{◌-◌, ◌≤◌}
+use mathlib.Core.Path.{ap, ap₂, ◌∙◌}
+use Prim.Native.Nat.{◌-◌}
 use native.Mathlib.Omega.{arith}
 use lib.Bits.{bit_or}
-use borrow.Author.Rules.{rules}
 use Rattle.views.specs.Marks.{marks_of}
 use Rattle.views.specs.Summary.{used_word}
 use Rattle.rows.proofs.Reasons.{first_places, no_places, next_place, all_places}
@@ -26,14 +25,11 @@ loop-i-smaller c = omega arith
 
 pub loop-i-preserved : goal.loop-i-preserved
 loop-i-preserved c =
-    let test = c in
-    let at_head = test in
-    let summaries = at_head.args.summaries.now in
-    (omega arith, ap₂ bit_or at_head.loop-i.invariant.1 c.used_bit-summary.ensures ∙ next_place (used_word summaries) 16 at_head.loop-i.i test.loop-i-test.true)
+    let summaries = c.args.summaries.now in
+    (omega arith, ap₂ bit_or c.loop-i.invariant.1 c.used_bit-summary.ensures ∙ next_place (used_word summaries) 16 c.loop-i.i c.loop-i-test.true)
 
 pub returns : goal.returns
 unfolding marks_of
 returns c =
-    let at_head = c in
-    let summaries = at_head.args.summaries.now in
-    at_head.loop-i.invariant.1 ∙ ap (first_places (used_word summaries) 16) (omega (arith, at_head.loop-i.invariant.0, c.loop-i-test.false)) ∙ all_places (used_word summaries) 16
+    let summaries = c.args.summaries.now in
+    c.loop-i.invariant.1 ∙ ap (first_places (used_word summaries) 16) (omega (arith, c.loop-i.invariant.0, c.loop-i-test.false)) ∙ all_places (used_word summaries) 16

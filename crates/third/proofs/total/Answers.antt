@@ -1,8 +1,7 @@
 -- `third::total` meets its contract: before each count, the total is the sum of those before it. Assumes nothing.
-use mathlib.Core.Path.{◌≡◌, refl, ap, ap₂, ◌∙◌}
-use Prim.Native.Nat.{ℕ, ◌+◌, ◌-◌, ◌*◌, ◌≤◌}
+use mathlib.Core.Path.{refl, ap, ap₂, ◌∙◌}
+use Prim.Native.Nat.{◌+◌, ◌-◌}
 use native.Mathlib.Omega.{arith}
-use borrow.Author.Rules.{rules}
 use Rattle.views.specs.Trees.{sum_first, sum_on}
 use Rattle.third.proofs.total.Goals as goal
 
@@ -27,10 +26,9 @@ loop-i-smaller c = omega arith
 
 pub loop-i-preserved : goal.loop-i-preserved
 loop-i-preserved c =
-    let at_head = c in
-    let counts = at_head.args.counts.now in
-    let inv = at_head.loop-i.invariant in
-    (omega (arith, c.loop-i-test.true), ap₂ ◌+◌ inv.1 c.wide-total.ensures.0 ∙ sum_on counts at_head.loop-i.i, omega (arith, inv.2, c.wide-total.ensures.1))
+    let counts = c.args.counts.now in
+    let inv = c.loop-i.invariant in
+    (omega (arith, c.loop-i-test.true), ap₂ ◌+◌ inv.1 c.wide-total.ensures.0 ∙ sum_on counts c.loop-i.i, omega (arith, inv.2, c.wide-total.ensures.1))
 
 pub returns : goal.returns
-returns c = let at_head = c in at_head.loop-i.invariant.1 ∙ ap (sum_first at_head.args.counts.now) (omega (arith, at_head.loop-i.invariant.0, c.loop-i-test.false))
+returns c = c.loop-i.invariant.1 ∙ ap (sum_first c.args.counts.now) (omega (arith, c.loop-i.invariant.0, c.loop-i-test.false))

@@ -1,9 +1,7 @@
 -- `third::total` meets its contract: before each count, the total is the sum of those before it. Assumes nothing.
-use mathlib.Core.Path.{◌≡◌, refl, ap, ap₂, ◌∙◌}
-use Prim.Native.Nat.{ℕ, ◌+◌, ◌-◌, ◌*◌, ◌≤◌}
-use native.Mathlib.Omega.{arith}
-use borrow.Author.Rules.{rules}
-use Rattle.views.specs.Trees.{sum_first, sum_on}
+use mathlib.Core.Path.{◌≡◌}
+use Prim.Native.Nat.{◌-◌, ◌*◌, ◌≤◌}
+use Rattle.views.specs.Trees.{sum_first}
 use Rattle.third.proofs.total.Given as goal
 
 abbrev pub invariant-loop-i : goal.invariant-loop-i

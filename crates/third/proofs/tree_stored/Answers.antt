@@ -3,7 +3,6 @@ use mathlib.Core.Path.{◌≡◌, ap, ◌∙◌}
 use Prim.Native.Nat.{ℕ, ◌+◌, ◌-◌, ◌*◌}
 use native.Mathlib.Omega.{arith}
 use lib.ListN.{take, drop}
-use borrow.Author.Rules.{rules}
 use Rattle.views.specs.Trees.{tree_words}
 use Rattle.tree.specs.Layout.{theirs}
 use Rattle.third.proofs.tree_stored.Goals as goal

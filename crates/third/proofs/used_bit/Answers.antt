@@ -1,7 +1,6 @@
 -- `third::used_bit` meets its contract: 1 or 0, moved up. Assumes nothing.
 use mathlib.Core.Bool.{not}
 use lib.Dec.{eqb}
-use borrow.Author.Rules.{rules}
 use Rattle.rows.proofs.Reasons.{shifted_bit}
 use Rattle.third.proofs.used_bit.Goals as goal
 

@@ -2,7 +2,6 @@
 use mathlib.Core.Path.{sym, ap}
 use mathlib.Core.List.{List}
 use Prim.Native.Nat.{ℕ}
-use borrow.Author.Rules.{rules}
 use Rattle.answers.specs.Answers.{left_by}
 use Rattle.answers.specs.declared.Answer.{Answer}
 use Rattle.views.specs.Count.{moved_count}
@@ -19,9 +18,6 @@ returns-in-Refused c =
 
 pub returns : goal.returns
 returns c =
-    let moving = c in
-    let painting = moving in
-    let kept = painting in
-    let asked = kept.args in
-    left_as_judged asked.judged kept.in_default.not-Refused asked.words.now asked.stored asked.start asked.n asked.used (λ (_ : List ℕ). moved_count asked.stored.count asked.n asked.used)
-    _ _ _ painting.paint.ensures moving.moved-count.ensures c.touched.ensures
+    let asked = c.args in
+    left_as_judged asked.judged c.in_default.not-Refused asked.words.now asked.stored asked.start asked.n asked.used (λ (_ : List ℕ). moved_count asked.stored.count asked.n asked.used)
+    _ _ _ c.paint.ensures c.moved-count.ensures c.touched.ensures

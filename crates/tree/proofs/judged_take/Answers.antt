@@ -2,8 +2,6 @@
 use mathlib.Core.Path.{sym, ap, ◌∙◌}
 use mathlib.Core.List.{List}
 use Prim.Native.Nat.{ℕ}
-use borrow.Author.Rules.{rules}
-use borrow.Author.Tests.{not-false}
 use Rattle.answers.specs.Said.{on_value}
 use Rattle.slots.specs.Calls.{says, take_call}
 use Rattle.slots.proofs.Outcomes.{shown_unsound, shown_sound}
@@ -16,18 +14,14 @@ use Rattle.tree.proofs.judged_take.Goals as goal
 pub returns-then-not-sound : goal.returns-then-not-sound
 unfolding on_value
 returns-then-not-sound c =
-    let tested = c in
-    let asked = tested.args in
-    sym (shown_unsound tree_view (tree_of asked.words.now asked.stored) _ _ tested.sound.ensures c.if-not-sound.true)
+    let asked = c.args in
+    sym (shown_unsound tree_view (tree_of asked.words.now asked.stored) _ _ c.sound.ensures c.if-not-sound.true)
 
 pub returns : goal.returns
 returns c =
-    let first = c in
-    let tested = first in
-    let entry = tested in
-    let asked = entry.args in
+    let asked = c.args in
     let t = tree_of asked.words.now asked.stored in
-    let fit = both_fit asked.stored entry.well_formed.1.0 in
+    let fit = both_fit asked.stored c.well_formed.1.0 in
     c.take.ensures
-    ∙ ap (λ (words : List ℕ). says (take_call 10 (slot_in words) asked.n asked.a)) (search_sees t fit.0 fit.1 entry.requires (sym tested.sound.ensures ∙ first.if-not-sound.false))
-    ∙ sym (shown_sound tree_view t _ _ tested.sound.ensures first.if-not-sound.false)
+    ∙ ap (λ (words : List ℕ). says (take_call 10 (slot_in words) asked.n asked.a)) (search_sees t fit.0 fit.1 c.requires (sym c.sound.ensures ∙ c.if-not-sound.false))
+    ∙ sym (shown_sound tree_view t _ _ c.sound.ensures c.if-not-sound.false)

@@ -1,7 +1,6 @@
 -- `tree::moved` meets its contract: the sum or the difference, cut off at sixteen bits. Assumes nothing.
 use mathlib.Core.Path.{sym, ap}
 use mathlib.Core.Bool.{Bool}
-use borrow.Author.Rules.{rules}
 use Rattle.views.specs.Count.{moved_count}
 use Rattle.tree.proofs.moved.Goals as goal
 

@@ -1,6 +1,5 @@
 -- `tree::set_out` meets its contract: on a refusal the very words and fields, and else the painted ones, counted anew. Assumes nothing.
 use mathlib.Core.Path.{sym, ap}
-use borrow.Author.Rules.{rules}
 use Rattle.answers.specs.Answers.{left_by}
 use Rattle.answers.specs.declared.Answer.{Answer}
 use Rattle.views.specs.Count.{count_of}
@@ -17,9 +16,6 @@ returns-in-Refused c =
 
 pub returns : goal.returns
 returns c =
-    let counting = c in
-    let painting = counting in
-    let kept = painting in
-    let asked = kept.args in
-    left_as_judged asked.judged kept.in_default.not-Refused asked.words.now asked.stored asked.start asked.n asked.used count_of
-    _ _ _ painting.paint.ensures counting.count-counted.ensures c.touched.ensures
+    let asked = c.args in
+    left_as_judged asked.judged c.in_default.not-Refused asked.words.now asked.stored asked.start asked.n asked.used count_of
+    _ _ _ c.paint.ensures c.count-counted.ensures c.touched.ensures

@@ -1,5 +1,4 @@
 -- `tree::stored_of` meets its contract: both marks and the count of the words. Assumes nothing.
-use borrow.Author.Rules.{rules}
 use Rattle.tree.specs.Layout.{stored_of}
 use Rattle.tree.proofs.stored_of.Goals as goal
 

@@ -1,5 +1,4 @@
 -- `tree::touched` meets its contract: both marks brought up to date. Assumes nothing.
-use borrow.Author.Rules.{rules}
 use Rattle.tree.specs.Layout.{stored_of}
 use Rattle.tree.proofs.touched.Goals as goal
 

@@ -3,7 +3,6 @@ use mathlib.Core.Path.{sym, ap, ◌∙◌}
 use mathlib.Core.List.{List}
 use Prim.Native.Nat.{ℕ}
 use lib.ListN.{get_or}
-use borrow.Author.Rules.{rules}
 use Rattle.answers.proofs.Judging.{left_accepted}
 use Rattle.answers.specs.declared.Answer.{Answer}
 use Rattle.word.specs.Layout.{word_of}
@@ -18,8 +17,6 @@ returns-in-Refused c =
 
 pub returns : goal.returns
 returns c =
-    let painting = c in
-    let kept = painting in
-    let asked = kept.args in
-    with_map asked.judged _ _ (ap (λ (words : List ℕ). word_of (get_or words 0 0)) painting.paint.ensures
-    ∙ sym (left_accepted asked.judged kept.in_default.not-Refused (word_of asked.bits) (painted_word asked.bits asked.start asked.n asked.used)))
+    let asked = c.args in
+    with_map asked.judged _ _ (ap (λ (words : List ℕ). word_of (get_or words 0 0)) c.paint.ensures
+    ∙ sym (left_accepted asked.judged c.in_default.not-Refused (word_of asked.bits) (painted_word asked.bits asked.start asked.n asked.used)))

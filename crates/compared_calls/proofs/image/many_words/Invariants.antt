@@ -1,5 +1,4 @@
 -- `compared_calls::image::many_words` is safe, and ends: a word each turn. Assumes nothing.
-use borrow.Author.Rules.{rules}
 use Prim.Native.Nat.{◌-◌, ◌≤◌}
 use Rattle.compared_calls.proofs.image.many_words.Given as goal
 

@@ -1,5 +1,4 @@
 -- `compared_calls::image::number_at` is safe, and ends: a byte each turn. Assumes nothing.
-use borrow.Author.Rules.{rules}
 use Prim.Native.Nat.{◌≤◌}
 use Rattle.compared_calls.proofs.image.number_at.Given as goal
 

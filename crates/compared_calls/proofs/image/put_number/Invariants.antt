@@ -1,5 +1,4 @@
 -- `compared_calls::image::put_number` is safe, and ends: a byte each turn. Assumes nothing.
-use borrow.Author.Rules.{rules}
 use Prim.Native.Nat.{◌-◌, ◌≤◌}
 use Rattle.compared_calls.proofs.image.put_number.Given as goal
 

@@ -1,5 +1,4 @@
 -- `compared_calls::image::put_of_trees` is safe, and ends: a tree each turn. Assumes nothing.
-use borrow.Author.Rules.{rules}
 use Prim.Native.Nat.{◌-◌, ◌≤◌}
 use Rattle.compared_calls.proofs.image.put_of_trees.Given as goal
 

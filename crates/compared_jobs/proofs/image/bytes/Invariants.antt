@@ -1,5 +1,4 @@
 -- `compared_jobs::image::bytes` is safe, and ends: a byte each turn. Assumes nothing.
-use borrow.Author.Rules.{rules}
 use Prim.Native.Nat.{◌-◌, ◌≤◌}
 use Rattle.compared_jobs.proofs.image.bytes.Given as goal
 

@@ -1,5 +1,4 @@
 -- `compared_jobs::image::numbers` is safe, and ends: a byte each turn, from the last. Assumes nothing.
-use borrow.Author.Rules.{rules}
 use Prim.Native.Nat.{◌≤◌}
 use Rattle.compared_jobs.proofs.image.numbers.Given as goal
 

@@ -1,5 +1,4 @@
 -- `compared_jobs::image::put_words` is safe, and ends: a word each turn. Assumes nothing.
-use borrow.Author.Rules.{rules}
 use Prim.Native.Nat.{◌-◌, ◌≤◌}
 use Rattle.compared_jobs.proofs.image.put_words.Given as goal
 

@@ -5,7 +5,6 @@ use lib.Dec.{eqb}
 use Prim.Native.Nat.{ℕ, ◌+◌}
 use borrow.Author.Tests.{eq-eqb, ne_eqb}
 use Rattle.bits.specs.Bytes.{number_in}
-use borrow.Author.Rules.{rules}
 use Rattle.image.proofs.fields.has_header.Goals as goal
 
 pub returns-then-image-at : goal.returns-then-image-at

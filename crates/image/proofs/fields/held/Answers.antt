@@ -2,14 +2,10 @@
 use mathlib.Core.Path.{ap, ◌∙◌}
 use Rattle.tree.specs.Layout.{stored_of, tree_of, holding}
 use Rattle.image.specs.Image.{held_in}
-use borrow.Author.Rules.{rules}
 use Rattle.image.proofs.fields.held.Goals as goal
 
 pub returns : goal.returns
 unfolding held_in
 returns c =
-    let made = c in
-    let summary = made in
-    let words = summary in
     c.with_summary.ensures
-    ∙ (λ i. let t = (made.holding.ensures ∙ ap holding words.words_in-words.ensures) i in tree_of t.words (stored_of (summary.two_at-summary.ensures i) t.full t.count))
+    ∙ (λ i. let t = (c.holding.ensures ∙ ap holding c.words_in-words.ensures) i in tree_of t.words (stored_of (c.two_at-summary.ensures i) t.full t.count))

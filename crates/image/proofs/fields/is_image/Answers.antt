@@ -5,9 +5,8 @@ use mathlib.Core.List.{List}
 use Prim.Native.Nat.{ℕ}
 use lib.Dec.{eqb}
 use lib.ListN.{length}
-use borrow.Author.Tests.{eq-eqb, ne_eqb, not-true, not-false}
+use borrow.Author.Tests.{eq-eqb, ne_eqb}
 use Rattle.image.specs.Image.{is_image, headed}
-use borrow.Author.Rules.{rules}
 use Rattle.image.proofs.fields.is_image.Goals as goal
 
 -- the test by its parts
@@ -22,13 +21,10 @@ returns-then-image-ne-LENGTH c =
 
 pub returns-then-not-has_header : goal.returns-then-not-has_header
 returns-then-not-has_header c =
-    let tested = c in
-    let asked = tested.args in
-    sym (by_parts asked.image.now true false (eq-eqb _ _ tested.if-image-ne-LENGTH.false) (sym tested.has_header.ensures ∙ c.if-not-has_header.true))
+    let asked = c.args in
+    sym (by_parts asked.image.now true false (eq-eqb _ _ c.if-image-ne-LENGTH.false) (sym c.has_header.ensures ∙ c.if-not-has_header.true))
 
 pub returns : goal.returns
 returns c =
-    let first = c in
-    let tested = first in
-    let asked = tested.args in
-    c.has_header-2.ensures ∙ sym (by_parts asked.image.now true true (eq-eqb _ _ tested.if-image-ne-LENGTH.false) (sym tested.has_header.ensures ∙ first.if-not-has_header.false))
+    let asked = c.args in
+    c.has_header-2.ensures ∙ sym (by_parts asked.image.now true true (eq-eqb _ _ c.if-image-ne-LENGTH.false) (sym c.has_header.ensures ∙ c.if-not-has_header.false))

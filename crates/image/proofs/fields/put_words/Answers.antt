@@ -1,13 +1,12 @@
 -- `image::fields::put_words` meets its contract: a word each turn. Assumes nothing.
 use mathlib.Core.Path.{◌≡◌, sym, ap, ◌∙◌}
 use mathlib.Core.List.{List}
-use Prim.Native.Nat.{ℕ, ◌+◌, ◌-◌, ◌*◌, ◌≤◌}
+use Prim.Native.Nat.{ℕ, ◌+◌, ◌-◌, ◌*◌}
 use native.Mathlib.Omega.{arith}
-use lib.ListN.{length, get_or, take}
-use Rattle.bits.specs.Bytes.{to_bytes, bytes_of}
+use lib.ListN.{length, get_or}
+use Rattle.bits.specs.Bytes.{to_bytes}
 use Rattle.bits.specs.Buffers.{put_at}
 use Rattle.image.proofs.Turns.{written_long, word_written, none_written, all_written}
-use borrow.Author.Rules.{rules}
 use Rattle.image.proofs.fields.put_words.Goals as goal
 use Rattle.image.proofs.fields.put_words.Lts as lts
 use Rattle.image.proofs.fields.put_words.Reads as reads
@@ -24,8 +23,7 @@ loop-i-init c =
 -- the bytes are as many as they were
 as_long : (c : At-loop-i) → length c.loop-i.image ≡ 136
 as_long c =
-    let start = c in
-    ap length c.loop-i.invariant.1 ∙ written_long start.args.image.now start.args.words.now start.requires.0 start.requires.1 c.loop-i.i c.loop-i.invariant.0
+    ap length c.loop-i.invariant.1 ∙ written_long c.args.image.now c.args.words.now c.requires.0 c.requires.1 c.loop-i.i c.loop-i.invariant.0
 
 pub put_eight-requires : goal.put_eight-requires
 put_eight-requires c =
@@ -37,12 +35,11 @@ put_eight-requires c =
 
 pub loop-i-preserved : goal.loop-i-preserved
 loop-i-preserved c =
-    let turn = c in
-    let asked = turn.args in
+    let asked = c.args in
     let inside = c.loop-i-test.true in (
       omega (arith, inside),
-      word_written asked.image.now asked.words.now turn.requires.0 turn.requires.1 turn.loop-i.i _ inside
-          (c.put_eight.ensures ∙ ap (λ (held : List ℕ). put_at held (3 + 8 * turn.loop-i.i) (to_bytes 8 (get_or asked.words.now turn.loop-i.i 0))) turn.loop-i.invariant.1),
+      word_written asked.image.now asked.words.now c.requires.0 c.requires.1 c.loop-i.i _ inside
+          (c.put_eight.ensures ∙ ap (λ (held : List ℕ). put_at held (3 + 8 * c.loop-i.i) (to_bytes 8 (get_or asked.words.now c.loop-i.i 0))) c.loop-i.invariant.1),
     )
 
 pub shape_of-image : goal.shape_of-image
@@ -50,6 +47,4 @@ shape_of-image c = as_long c.before.before ∙ sym c.requires.0
 
 pub returns : goal.returns
 returns c =
-    let turn = c in
-    let start = turn in
-    turn.loop-i.invariant.1 ∙ all_written start.args.image.now start.args.words.now start.requires.0 start.requires.1 turn.loop-i.i c.loop-i-test.false
+    c.loop-i.invariant.1 ∙ all_written c.args.image.now c.args.words.now c.requires.0 c.requires.1 c.loop-i.i c.loop-i-test.false

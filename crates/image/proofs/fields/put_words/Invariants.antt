@@ -1,13 +1,9 @@
 -- `image::fields::put_words` meets its contract: a word each turn. Assumes nothing.
-use mathlib.Core.Path.{◌≡◌, sym, ap, ◌∙◌}
-use mathlib.Core.List.{List}
-use Prim.Native.Nat.{ℕ, ◌+◌, ◌-◌, ◌*◌, ◌≤◌}
-use native.Mathlib.Omega.{arith}
-use lib.ListN.{length, get_or, take}
-use Rattle.bits.specs.Bytes.{to_bytes, bytes_of}
+use mathlib.Core.Path.{◌≡◌}
+use Prim.Native.Nat.{◌-◌, ◌≤◌}
+use lib.ListN.{take}
+use Rattle.bits.specs.Bytes.{bytes_of}
 use Rattle.bits.specs.Buffers.{put_at}
-use Rattle.image.proofs.Turns.{written_long, word_written, none_written, all_written}
-use borrow.Author.Rules.{rules}
 use Rattle.image.proofs.fields.put_words.Given as goal
 
 abbrev pub invariant-loop-i : goal.invariant-loop-i

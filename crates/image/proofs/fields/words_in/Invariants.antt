@@ -1,12 +1,9 @@
 -- `image::fields::words_in` meets its contract: a word each turn. Assumes nothing.
-use mathlib.Core.Path.{◌≡◌, refl}
+use mathlib.Core.Path.{◌≡◌}
 use Prim.Native.Nat.{◌-◌, ◌≤◌}
-use native.Mathlib.Omega.{arith}
 use lib.ListN.{length}
 use Rattle.image.specs.Image.{words_in}
-use lib.ListN.{take, length-set}
-use Rattle.image.proofs.Turns.{word_read, all_read}
-use borrow.Author.Rules.{rules}
+use lib.ListN.{take}
 use Rattle.image.proofs.fields.words_in.Given as goal
 
 abbrev pub invariant-loop-i : goal.invariant-loop-i

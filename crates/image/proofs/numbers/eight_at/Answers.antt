@@ -2,12 +2,10 @@
 use mathlib.Core.Path.{sym}
 use native.Mathlib.Omega.{arith}
 use Rattle.bits.specs.Bytes.{number_parts}
-use borrow.Author.Rules.{rules}
 use Rattle.image.proofs.numbers.eight_at.Goals as goal
 
 pub returns : goal.returns
 returns c =
-    let start = c in
-    let asked = start.args in
-    let inside = start.requires in
+    let asked = c.args in
+    let inside = c.requires in
     rw (c.four_at-2.ensures, c.four_at.ensures) (sym (number_parts 4 4 asked.bytes.now asked.at (omega (arith, inside))))

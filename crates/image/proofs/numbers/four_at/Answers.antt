@@ -2,12 +2,10 @@
 use mathlib.Core.Path.{sym}
 use native.Mathlib.Omega.{arith}
 use Rattle.bits.specs.Bytes.{number_parts}
-use borrow.Author.Rules.{rules}
 use Rattle.image.proofs.numbers.four_at.Goals as goal
 
 pub returns : goal.returns
 returns c =
-    let start = c in
-    let asked = start.args in
-    let inside = start.requires in
+    let asked = c.args in
+    let inside = c.requires in
     rw (c.two_at-2.ensures, c.two_at.ensures) (sym (number_parts 2 2 asked.bytes.now asked.at (omega (arith, inside))))

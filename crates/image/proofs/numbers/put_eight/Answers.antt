@@ -5,15 +5,12 @@ use Prim.Native.Nat.{ℕ, ◌+◌, ◌/◌}
 use native.Mathlib.Omega.{arith}
 use Rattle.bits.specs.Bytes.{to_bytes}
 use Rattle.bits.specs.Buffers.{put_at, put_parts}
-use borrow.Author.Rules.{rules}
 use Rattle.image.proofs.numbers.put_eight.Goals as goal
 
 pub returns : goal.returns
 returns c =
-    let low = c in
-    let start = low in
-    let asked = start.args in
-    let inside = start.requires in
+    let asked = c.args in
+    let inside = c.requires in
     c.put_four-2.ensures
-    ∙ ap (λ (held : List ℕ). put_at held (asked.at + 4) (to_bytes 4 (asked.n / 4294967296))) low.put_four.ensures
+    ∙ ap (λ (held : List ℕ). put_at held (asked.at + 4) (to_bytes 4 (asked.n / 4294967296))) c.put_four.ensures
     ∙ put_parts asked.bytes.now asked.at 4 4 asked.n (omega (arith, inside))

@@ -5,15 +5,12 @@ use Prim.Native.Nat.{ℕ, ◌+◌, ◌/◌}
 use native.Mathlib.Omega.{arith}
 use Rattle.bits.specs.Bytes.{to_bytes}
 use Rattle.bits.specs.Buffers.{put_at, put_parts}
-use borrow.Author.Rules.{rules}
 use Rattle.image.proofs.numbers.put_four.Goals as goal
 
 pub returns : goal.returns
 returns c =
-    let low = c in
-    let start = low in
-    let asked = start.args in
-    let inside = start.requires in
+    let asked = c.args in
+    let inside = c.requires in
     c.put_two-2.ensures
-    ∙ ap (λ (held : List ℕ). put_at held (asked.at + 2) (to_bytes 2 (asked.n / 65536))) low.put_two.ensures
+    ∙ ap (λ (held : List ℕ). put_at held (asked.at + 2) (to_bytes 2 (asked.n / 65536))) c.put_two.ensures
     ∙ put_parts asked.bytes.now asked.at 2 2 asked.n (omega (arith, inside))

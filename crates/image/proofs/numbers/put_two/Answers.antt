@@ -7,7 +7,6 @@ use native.Mathlib.Omega.{arith}
 use lib.ListN.{length-set}
 use Rattle.bits.specs.Bytes.{to_bytes}
 use Rattle.bits.specs.Buffers.{put_at, put_two}
-use borrow.Author.Rules.{rules}
 use Rattle.image.proofs.numbers.put_two.Goals as goal
 
 high_byte : (n : ℕ) → n < 65536 → n / 256 < 256

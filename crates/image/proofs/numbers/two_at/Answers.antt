@@ -2,7 +2,6 @@
 use mathlib.Core.Path.{sym}
 use native.Mathlib.Omega.{arith}
 use Rattle.bits.specs.Bytes.{number_two}
-use borrow.Author.Rules.{rules}
 use Rattle.image.proofs.numbers.two_at.Goals as goal
 
 pub returns : goal.returns

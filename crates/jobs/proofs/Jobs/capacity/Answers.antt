@@ -1,5 +1,4 @@
 -- `jobs::Jobs::capacity` meets its contract: the capacity of the tree's size. Assumes nothing.
-use borrow.Author.Rules.{rules}
 use Rattle.slots.specs.Calls.{capacity}
 use Rattle.jobs.proofs.Jobs.capacity.Goals as goal
 

@@ -1,6 +1,5 @@
 -- `jobs::Jobs::new_empty` meets its contract: the empty tree, and words of no ones beside it. Assumes nothing.
 use mathlib.Core.Path.{ap}
-use borrow.Author.Rules.{rules}
 use Rattle.bits.specs.Digits.{number}
 use Rattle.views.specs.Words.{listed}
 use Rattle.tree.specs.declared.Tree.{Tree}

@@ -1,6 +1,5 @@
 -- `jobs::Jobs::start` meets its contract: 1 where a reaped slot is not used, and else the tree's take. Assumes nothing.
 use mathlib.Core.Path.{sym, ap, ◌∙◌}
-use borrow.Author.Rules.{rules}
 use Rattle.answers.specs.Said.{Said}
 use Rattle.answers.specs.Answers.{Reply, answer_says}
 use Rattle.slots.specs.Jobs.{start_call}
@@ -12,21 +11,16 @@ use Rattle.jobs.proofs.Jobs.start.Goals as goal
 
 pub returns-then-not-reaped_used : goal.returns-then-not-reaped_used
 returns-then-not-reaped_used c =
-    let tested = c in
-    let asked = tested.args in
+    let asked = c.args in
     let j = asked.self in
     let call = start_call 10 (marks_of j) asked.n asked.a in
-    sym (says_refused jobs_view j call 1 (sym (asked_amiss j.tree j.reaped _ tested.reaped_used.ensures call c.if-not-reaped_used.true)))
+    sym (says_refused jobs_view j call 1 (sym (asked_amiss j.tree j.reaped _ c.reaped_used.ensures call c.if-not-reaped_used.true)))
 
 pub returns : goal.returns
 returns c =
-    let taking = c in
-    let first = taking in
-    let tested = first in
-    let entry = tested in
-    let asked = entry.args in
+    let asked = c.args in
     let j = asked.self in
-    let taken = taking.take-taken.result in
+    let taken = c.take-taken.result in
     ap (λ (said : Said Reply). (said, jobs_of taken.map j.reaped)) c.as_job_answer.ensures
-    ∙ started j.tree j.reaped (are_jobs j entry.well_formed.0).are_reaped asked.n asked.a (shown_kept j.tree j.reaped _ tested.reaped_used.ensures first.if-not-reaped_used.false)
-    (answer_says taken.answer) taken.map taking.take-taken.ensures
+    ∙ started j.tree j.reaped (are_jobs j c.well_formed.0).are_reaped asked.n asked.a (shown_kept j.tree j.reaped _ c.reaped_used.ensures c.if-not-reaped_used.false)
+    (answer_says taken.answer) taken.map c.take-taken.ensures

@@ -1,5 +1,4 @@
 -- `rounding::narrow::is_aligned` meets its contract: each way out is the law of `Masks` at 32 bits. Assumes nothing.
-use borrow.Author.Rules.{rules}
 use Rattle.rounding.specs.Multiples.{aligned}
 use Rattle.rounding.proofs.Masks.{refused_alignment, align_pos, divided}
 use Rattle.rounding.proofs.narrow.is_aligned.Goals as goal

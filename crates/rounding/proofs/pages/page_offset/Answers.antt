@@ -1,6 +1,5 @@
 -- `rounding::pages::page_offset` meets its contract: the 12 low digits are the remainder. Assumes nothing.
 use lib.Bits.{and_mask}
-use borrow.Author.Rules.{rules}
 use Rattle.rounding.specs.Pages.{page_offset}
 use Rattle.rounding.proofs.pages.page_offset.Goals as goal
 

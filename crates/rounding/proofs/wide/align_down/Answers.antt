@@ -1,5 +1,4 @@
 -- `rounding::wide::align_down` meets its contract: each way out is the law of `Masks` at 64 bits. Assumes nothing.
-use borrow.Author.Rules.{rules}
 use Rattle.rounding.specs.Multiples.{aligned_down}
 use Rattle.rounding.proofs.Masks.{refused_alignment, align_pos, rounded_down}
 use Rattle.rounding.proofs.wide.align_down.Goals as goal

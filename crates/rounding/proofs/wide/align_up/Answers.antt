@@ -1,5 +1,4 @@
 -- `rounding::wide::align_up` meets its contract: each way out is the law of `Masks` at 64 bits. Assumes nothing.
-use borrow.Author.Rules.{rules}
 use Rattle.rounding.specs.Multiples.{aligned_up}
 use Rattle.rounding.proofs.Masks.{refused_alignment, align_pos, refused_width, rounded_up}
 use Rattle.rounding.proofs.wide.align_up.Goals as goal

@@ -1,5 +1,4 @@
 -- `rounding::wide::is_aligned` meets its contract: each way out is the law of `Masks` at 64 bits. Assumes nothing.
-use borrow.Author.Rules.{rules}
 use Rattle.rounding.specs.Multiples.{aligned}
 use Rattle.rounding.proofs.Masks.{refused_alignment, align_pos, divided}
 use Rattle.rounding.proofs.wide.is_aligned.Goals as goal

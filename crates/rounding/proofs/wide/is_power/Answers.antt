@@ -1,6 +1,5 @@
 -- `rounding::wide::is_power` meets its contract: the mask's test is the search for an exponent, by the law at 64 bits. Assumes nothing.
 use native.Mathlib.Nat.{pos_of_ne-zero}
-use borrow.Author.Rules.{rules}
 use Rattle.rounding.proofs.Masks.{zero_by_mask, power_by_mask}
 use Rattle.rounding.proofs.wide.is_power.Goals as goal
 

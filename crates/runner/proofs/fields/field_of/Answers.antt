@@ -1,5 +1,4 @@
 -- `runner::fields::field_of` meets its contract: the two numbers, kind by kind. Assumes nothing.
-use borrow.Author.Rules.{rules}
 use Rattle.runner.proofs.fields.field_of.Goals as goal
 
 pub returns-in-Take : goal.returns-in-Take

@@ -1,5 +1,4 @@
 -- `runner::fields::may_hold` meets its contract, kind by kind. Assumes nothing.
-use borrow.Author.Rules.{rules}
 use Rattle.runner.proofs.fields.may_hold.Goals as goal
 
 pub returns-in-Take : goal.returns-in-Take

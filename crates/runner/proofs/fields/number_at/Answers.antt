@@ -3,7 +3,6 @@ use mathlib.Core.Path.{sym}
 use native.Mathlib.Omega.{arith}
 use Rattle.bits.specs.Bytes.{number_two}
 use Rattle.report.specs.Fields.{number_none, number_one}
-use borrow.Author.Rules.{rules}
 use Rattle.runner.proofs.fields.number_at.Goals as goal
 
 pub returns-then-bytes-at : goal.returns-then-bytes-at

@@ -1,13 +1,11 @@
 -- `runner::lines::put` meets its contract: there is room. Assumes nothing.
 use mathlib.Core.Path.{ap, ◌∙◌}
 use native.Mathlib.Omega.{arith}
-use borrow.Author.Rules.{rules}
 use Rattle.texts.specs.Texts.{put_fits}
 use Rattle.runner.proofs.lines.put.Goals as goal
 
 pub returns : goal.returns
 returns c =
-    let put = c in
-    let asked = put.args in
-    let out = put.put.ensures ∙ put_fits asked.at asked.report.now asked.words.now (omega arith) in
+    let asked = c.args in
+    let out = c.put.ensures ∙ put_fits asked.at asked.report.now asked.words.now (omega arith) in
     record { value = ap (λ o. o.0) out; report_after = ap (λ o. o.1) out }

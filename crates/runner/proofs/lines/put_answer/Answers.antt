@@ -6,38 +6,31 @@ use Rattle.answers.specs.Said.{refused}
 use Rattle.report.specs.Report.{said, written}
 use Rattle.runner.specs.Inner.{answer_line}
 use Rattle.runner.proofs.Texts.{room_for, put_as}
-use borrow.Author.Rules.{rules}
 use Rattle.runner.proofs.lines.put_answer.Goals as goal
 
 pub put_number-requires : goal.put_number-requires
 put_number-requires c =
-    let start = c in
-    room_for start.args.report.now start.args.at (written (answer_line start.args.answer)) _ (ap (λ (answer : Answer). written (answer_line answer)) c.in-At.is) start.requires
+    room_for c.args.report.now c.args.at (written (answer_line c.args.answer)) _ (ap (λ (answer : Answer). written (answer_line answer)) c.in-At.is) c.requires
 
 pub put-requires : goal.put-requires
 put-requires c =
-    let start = c in
-    room_for start.args.report.now start.args.at (written (answer_line start.args.answer)) _ (ap (λ (answer : Answer). written (answer_line answer)) c.in-Done.is) start.requires
+    room_for c.args.report.now c.args.at (written (answer_line c.args.answer)) _ (ap (λ (answer : Answer). written (answer_line answer)) c.in-Done.is) c.requires
 
 pub put_number-requires-in-Refused : goal.put_number-requires-in-Refused
 put_number-requires-in-Refused c =
-    let start = c in
-    room_for start.args.report.now start.args.at (written (answer_line start.args.answer)) _ (ap (λ (answer : Answer). written (answer_line answer)) c.in-Refused.is ∙ ap (λ (k : ℕ). written (said (refused k))) (sym c.number.ensures)) start.requires
+    room_for c.args.report.now c.args.at (written (answer_line c.args.answer)) _ (ap (λ (answer : Answer). written (answer_line answer)) c.in-Refused.is ∙ ap (λ (k : ℕ). written (said (refused k))) (sym c.number.ensures)) c.requires
 
 pub returns-in-At : goal.returns-in-At
 returns-in-At c =
-    let start = c in
-    let out = put_as start.args.report.now start.args.at (written (answer_line start.args.answer)) _ (ap (λ (answer : Answer). written (answer_line answer)) c.in-At.is) _ _ (c.put_number.ensures.value, c.put_number.ensures.report_after) in
+    let out = put_as c.args.report.now c.args.at (written (answer_line c.args.answer)) _ (ap (λ (answer : Answer). written (answer_line answer)) c.in-At.is) _ _ (c.put_number.ensures.value, c.put_number.ensures.report_after) in
     record { value = out.0; report_after = out.1 }
 
 pub returns-in-Done : goal.returns-in-Done
 returns-in-Done c =
-    let start = c in
-    let out = put_as start.args.report.now start.args.at (written (answer_line start.args.answer)) _ (ap (λ (answer : Answer). written (answer_line answer)) c.in-Done.is) _ _ (c.put.ensures.value, c.put.ensures.report_after) in
+    let out = put_as c.args.report.now c.args.at (written (answer_line c.args.answer)) _ (ap (λ (answer : Answer). written (answer_line answer)) c.in-Done.is) _ _ (c.put.ensures.value, c.put.ensures.report_after) in
     record { value = out.0; report_after = out.1 }
 
 pub returns-in-Refused : goal.returns-in-Refused
 returns-in-Refused c =
-    let start = c in
-    let out = put_as start.args.report.now start.args.at (written (answer_line start.args.answer)) _ (ap (λ (answer : Answer). written (answer_line answer)) c.in-Refused.is ∙ ap (λ (k : ℕ). written (said (refused k))) (sym c.number.ensures)) _ _ (c.put_number-in-Refused.ensures.value, c.put_number-in-Refused.ensures.report_after) in
+    let out = put_as c.args.report.now c.args.at (written (answer_line c.args.answer)) _ (ap (λ (answer : Answer). written (answer_line answer)) c.in-Refused.is ∙ ap (λ (k : ℕ). written (said (refused k))) (sym c.number.ensures)) _ _ (c.put_number-in-Refused.ensures.value, c.put_number-in-Refused.ensures.report_after) in
     record { value = out.0; report_after = out.1 }

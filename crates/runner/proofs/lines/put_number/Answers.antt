@@ -4,7 +4,6 @@ use native.Mathlib.Omega.{arith}
 use lib.ListN.{length}
 use Rattle.report.specs.Report.{numbered}
 use Rattle.runner.proofs.Texts.{word_fits, end_fits, all_put, all_length}
-use borrow.Author.Rules.{rules}
 use Rattle.runner.proofs.lines.put_number.Goals as goal
 
 pub put-after_word-requires : goal.put-after_word-requires
@@ -14,20 +13,15 @@ put-after_word-requires c =
 
 pub put-requires : goal.put-requires
 put-requires c =
-    let numeral = c in
-    let worded = numeral in
-    let asked = worded.args in
-    end_fits asked.report.now asked.word.now asked.at asked.n (omega arith) _ _ worded.put-after_word.ensures.value worded.put-after_word.ensures.report_after _ _ numeral.put_number-after_number.ensures
+    let asked = c.args in
+    end_fits asked.report.now asked.word.now asked.at asked.n (omega arith) _ _ c.put-after_word.ensures.value c.put-after_word.ensures.report_after _ _ c.put_number-after_number.ensures
 
 pub returns : goal.returns
 returns c =
-    let ended = c in
-    let numeral = ended in
-    let worded = numeral in
-    let asked = worded.args in
+    let asked = c.args in
     let report = asked.report.now in
     let word = asked.word.now in
     let fits : asked.at + length (numbered word asked.n) ≤ length report = omega arith in record {
-      value = all_length report word asked.at asked.n fits _ _ worded.put-after_word.ensures.value worded.put-after_word.ensures.report_after _ _ numeral.put_number-after_number.ensures _ ended.put.ensures.value;
-      report_after = all_put report word asked.at asked.n fits _ _ worded.put-after_word.ensures.value worded.put-after_word.ensures.report_after _ _ numeral.put_number-after_number.ensures _ ended.put.ensures.report_after;
+      value = all_length report word asked.at asked.n fits _ _ c.put-after_word.ensures.value c.put-after_word.ensures.report_after _ _ c.put_number-after_number.ensures _ c.put.ensures.value;
+      report_after = all_put report word asked.at asked.n fits _ _ c.put-after_word.ensures.value c.put-after_word.ensures.report_after _ _ c.put_number-after_number.ensures _ c.put.ensures.report_after;
     }

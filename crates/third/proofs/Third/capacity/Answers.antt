@@ -1,5 +1,4 @@
 -- `third::Third::capacity` meets its contract: the capacity of its size. Assumes nothing.
-use borrow.Author.Rules.{rules}
 use Rattle.slots.specs.Calls.{capacity}
 use Rattle.third.proofs.Third.capacity.Goals as goal
 

@@ -7,18 +7,15 @@ use Rattle.third.proofs.Outcomes.{carries}
 use Rattle.third.proofs.Third.claim.Goals as goal
 
 pub judged_change-judged-requires : goal.judged_change-judged-requires
-judged_change-judged-requires c = let entry = c in is_third entry.args.self entry.well_formed.0
+judged_change-judged-requires c = is_third c.args.self c.well_formed.0
 
 pub carried_out-over-requires : goal.carried_out-over-requires
 carried_out-over-requires c =
-    let entry = c in
-    let h = (is_third_means entry.args.self).0 (is_third entry.args.self entry.well_formed.0) in
+    let h = (is_third_means c.args.self).0 (is_third c.args.self c.well_formed.0) in
     (h.0, h.2, h.4, h.6)
 
 pub returns : goal.returns
 returns c =
-    let judging = c in
-    let entry = judging in
-    let asked = entry.args in
+    let asked = c.args in
     let t = asked.self in
-    carries t (is_third t entry.well_formed.0) _ asked.start asked.n true (claim_after 14 (slot_of t) asked.start asked.n) judging.judged_change-judged.result judging.judged_change-judged.ensures _ c.carried_out-over.ensures
+    carries t (is_third t c.well_formed.0) _ asked.start asked.n true (claim_after 14 (slot_of t) asked.start asked.n) c.judged_change-judged.result c.judged_change-judged.ensures _ c.carried_out-over.ensures

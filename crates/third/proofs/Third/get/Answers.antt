@@ -1,21 +1,17 @@
 -- `third::Third::get` meets its contract: 1 where the map is not sound, and else what the judge says. Assumes nothing.
 use mathlib.Core.Path.{sym, ◌∙◌}
-use borrow.Author.Rules.{rules}
 use Rattle.slots.proofs.Outcomes.{shown_unsound, shown_sound}
 use Rattle.third.specs.Layout.{third_view}
 use Rattle.third.proofs.Values.{is_third}
 use Rattle.third.proofs.Third.get.Goals as goal
 
 pub sound-requires : goal.sound-requires
-sound-requires c = let entry = c in is_third entry.args.self entry.well_formed.0
+sound-requires c = is_third c.args.self c.well_formed.0
 
 pub returns-then-not-sound : goal.returns-then-not-sound
 returns-then-not-sound c =
-    let tested = c in
-    sym (shown_unsound third_view tested.args.self _ _ tested.sound.ensures c.if-not-sound.true)
+    sym (shown_unsound third_view c.args.self _ _ c.sound.ensures c.if-not-sound.true)
 
 pub returns : goal.returns
 returns c =
-    let first = c in
-    let tested = first in
-    c.get.ensures ∙ sym (shown_sound third_view tested.args.self _ _ tested.sound.ensures first.if-not-sound.false)
+    c.get.ensures ∙ sym (shown_sound third_view c.args.self _ _ c.sound.ensures c.if-not-sound.false)

@@ -34,8 +34,7 @@ are_words c = record { so_many = many; each_fits = λ i l. (fits i).fits }
 
 pub returns : goal.returns
 returns c =
-    let renewing = c in
-    let entry = renewing.before.before.before.before.before.before.before in
+    let entry = c.before.before.before.before.before.before.before in
     let words = entry.args.words in
-    let anew = renewing.renew.ensures in
+    let anew = c.renew.ensures in
     made_anew words _ _ _ _ (are_words entry) (anew.0 ∙ renewed_all summary_of words _) (anew.1 ∙ renewed_all full_of words _) (anew.2 ∙ renewed_all count_of words _) c.top-summary.ensures

@@ -1,7 +1,5 @@
 -- `third::Third::next_free` meets its contract: 1 where the map is not sound, and else what the judge says, whose search sees the words. Assumes nothing.
 use mathlib.Core.Path.{sym, ap, ◌∙◌}
-use borrow.Author.Rules.{rules}
-use borrow.Author.Tests.{not-false}
 use Rattle.slots.specs.Sets.{Slots}
 use Rattle.slots.specs.Calls.{says, next_free_call}
 use Rattle.slots.proofs.Outcomes.{shown_unsound, shown_sound}
@@ -12,20 +10,16 @@ use Rattle.third.proofs.Outcomes.{search_sees}
 use Rattle.third.proofs.Third.next_free.Goals as goal
 
 pub sound-requires : goal.sound-requires
-sound-requires c = let entry = c in is_third entry.args.self entry.well_formed.0
+sound-requires c = is_third c.args.self c.well_formed.0
 
 pub returns-then-not-sound : goal.returns-then-not-sound
 returns-then-not-sound c =
-    let tested = c in
-    sym (shown_unsound third_view tested.args.self _ _ tested.sound.ensures c.if-not-sound.true)
+    sym (shown_unsound third_view c.args.self _ _ c.sound.ensures c.if-not-sound.true)
 
 pub returns : goal.returns
 returns c =
-    let first = c in
-    let tested = first in
-    let entry = tested in
-    let t = entry.args.self in
+    let t = c.args.self in
     c.next_free.ensures
-    ∙ ap (λ (S : Slots). says (next_free_call 14 S entry.args.start))
-    (seen_right t.words t.fulls (search_sees t (is_third t entry.well_formed.0) (sym tested.sound.ensures ∙ first.if-not-sound.false)) entry.args.start)
-    ∙ sym (shown_sound third_view t _ _ tested.sound.ensures first.if-not-sound.false)
+    ∙ ap (λ (S : Slots). says (next_free_call 14 S c.args.start))
+    (seen_right t.words t.fulls (search_sees t (is_third t c.well_formed.0) (sym c.sound.ensures ∙ c.if-not-sound.false)) c.args.start)
+    ∙ sym (shown_sound third_view t _ _ c.sound.ensures c.if-not-sound.false)

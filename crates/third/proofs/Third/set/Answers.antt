@@ -8,19 +8,16 @@ use Rattle.third.proofs.Outcomes.{carries}
 use Rattle.third.proofs.Third.set.Goals as goal
 
 pub judged_range-judged-requires : goal.judged_range-judged-requires
-judged_range-judged-requires c = let entry = c in is_third entry.args.self entry.well_formed.0
+judged_range-judged-requires c = is_third c.args.self c.well_formed.0
 
 pub carried_out-over-requires : goal.carried_out-over-requires
 carried_out-over-requires c =
-    let entry = c in
-    let h = (is_third_means entry.args.self).0 (is_third entry.args.self entry.well_formed.0) in
+    let h = (is_third_means c.args.self).0 (is_third c.args.self c.well_formed.0) in
     (h.0, h.2, h.4, h.6)
 
 pub returns : goal.returns
 unfolding answered set_call
 returns c =
-    let judging = c in
-    let entry = judging in
-    let asked = entry.args in
+    let asked = c.args in
     let t = asked.self in
-    carries t (is_third t entry.well_formed.0) (set_call 14 (slot_of t) asked.start asked.n asked.used) asked.start asked.n asked.used (set_after 14 (slot_of t) asked.start asked.n asked.used) judging.judged_range-judged.result judging.judged_range-judged.ensures _ c.carried_out-over.ensures
+    carries t (is_third t c.well_formed.0) (set_call 14 (slot_of t) asked.start asked.n asked.used) asked.start asked.n asked.used (set_after 14 (slot_of t) asked.start asked.n asked.used) c.judged_range-judged.result c.judged_range-judged.ensures _ c.carried_out-over.ensures

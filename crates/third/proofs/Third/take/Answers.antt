@@ -1,7 +1,6 @@
 -- `third::Third::take` meets its contract: what was judged, carried out. Assumes nothing.
 use mathlib.Core.Path.{sym}
 use mathlib.Core.Bool.{true}
-use borrow.Author.Rules.{rules}
 use Rattle.answers.proofs.Judging.{told_at, told_refused}
 use Rattle.answers.specs.Refusals.{number_of}
 use Rattle.answers.specs.declared.Answer.TheVariants.{At}
@@ -14,32 +13,26 @@ use Rattle.third.proofs.Outcomes.{carries}
 use Rattle.third.proofs.Third.take.Goals as goal
 
 pub judged_take-found-requires : goal.judged_take-found-requires
-judged_take-found-requires c = let entry = c in is_third entry.args.self entry.well_formed.0
+judged_take-found-requires c = is_third c.args.self c.well_formed.0
 
 pub carried_out-over-requires : goal.carried_out-over-requires
 carried_out-over-requires c =
-    let entry = c in
-    let h = (is_third_means entry.args.self).0 (is_third entry.args.self entry.well_formed.0) in
+    let h = (is_third_means c.args.self).0 (is_third c.args.self c.well_formed.0) in
     (h.0, h.2, h.4, h.6)
 
 pub returns-in-Refused : goal.returns-in-Refused
 returns-in-Refused c =
-    let known = c in
-    let judging = known in
-    let asked = judging.args in
+    let asked = c.args in
     let t = asked.self in
     let call = take_call 14 (slot_of t) asked.n asked.a in
-    let why = known.in-Refused.why in
-    sym (says_refused third_view t call (number_of why) (told_refused judging.judged_take-found.result (answered third_view t call) judging.judged_take-found.ensures why known.in-Refused.is))
+    let why = c.in-Refused.why in
+    sym (says_refused third_view t call (number_of why) (told_refused c.judged_take-found.result (answered third_view t call) c.judged_take-found.ensures why c.in-Refused.is))
 
 pub returns-in-At : goal.returns-in-At
 returns-in-At c =
-    let known = c in
-    let judging = known in
-    let entry = judging in
-    let asked = entry.args in
+    let asked = c.args in
     let t = asked.self in
     let call = take_call 14 (slot_of t) asked.n asked.a in
-    let start = known.in-At.start in
-    let told = told_at judging.judged_take-found.result (answered third_view t call) judging.judged_take-found.ensures start known.in-At.is in
-    carries t (is_third t entry.well_formed.0) call start asked.n true (take_paints third_view t asked.n asked.a start told) (At start) told _ c.carried_out-over.ensures
+    let start = c.in-At.start in
+    let told = told_at c.judged_take-found.result (answered third_view t call) c.judged_take-found.ensures start c.in-At.is in
+    carries t (is_third t c.well_formed.0) call start asked.n true (take_paints third_view t asked.n asked.a start told) (At start) told _ c.carried_out-over.ensures

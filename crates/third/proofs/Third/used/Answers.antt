@@ -1,7 +1,5 @@
 -- `third::Third::used` meets its contract: 1 where the map is not sound, and else the sum of the stored counts. Assumes nothing.
 use mathlib.Core.Path.{sym, ap, ◌∙◌}
-use borrow.Author.Rules.{rules}
-use borrow.Author.Tests.{not-false}
 use Rattle.answers.specs.Said.{value}
 use Rattle.slots.specs.Promises.{used_promise}
 use Rattle.slots.proofs.Outcomes.{shown_unsound, shown_sound}
@@ -11,18 +9,14 @@ use Rattle.third.proofs.Outcomes.{used_shown}
 use Rattle.third.proofs.Third.used.Goals as goal
 
 pub sound-requires : goal.sound-requires
-sound-requires c = let entry = c in is_third entry.args.self entry.well_formed.0
+sound-requires c = is_third c.args.self c.well_formed.0
 
 pub returns-then-not-sound : goal.returns-then-not-sound
 returns-then-not-sound c =
-    let tested = c in
-    sym (shown_unsound third_view tested.args.self _ _ tested.sound.ensures c.if-not-sound.true)
+    sym (shown_unsound third_view c.args.self _ _ c.sound.ensures c.if-not-sound.true)
 
 pub returns : goal.returns
 returns c =
-    let first = c in
-    let tested = first in
-    let entry = tested in
-    let t = entry.args.self in
-    ap value (c.total.ensures ∙ used_shown t (is_third t entry.well_formed.0) (sym tested.sound.ensures ∙ first.if-not-sound.false))
-    ∙ sym (shown_sound third_view t _ _ tested.sound.ensures first.if-not-sound.false ∙ used_promise 14 (slot_of t))
+    let t = c.args.self in
+    ap value (c.total.ensures ∙ used_shown t (is_third t c.well_formed.0) (sym c.sound.ensures ∙ c.if-not-sound.false))
+    ∙ sym (shown_sound third_view t _ _ c.sound.ensures c.if-not-sound.false ∙ used_promise 14 (slot_of t))

@@ -1,5 +1,4 @@
 -- `tree::Tree::capacity` meets its contract: the capacity of its size. Assumes nothing.
-use borrow.Author.Rules.{rules}
 use Rattle.slots.specs.Calls.{capacity}
 use Rattle.tree.proofs.Tree.capacity.Goals as goal
 

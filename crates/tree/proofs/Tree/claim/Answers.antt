@@ -1,7 +1,6 @@
 -- `tree::Tree::claim` meets its contract: what was judged, carried out. Assumes nothing.
 use mathlib.Core.Path.{◌∙◌}
 use mathlib.Core.Bool.{true}
-use borrow.Author.Rules.{rules}
 use Rattle.answers.specs.Answers.{answer_says}
 use Rattle.slots.specs.Calls.{claim_call}
 use Rattle.slots.specs.Promises.{claim_after}
@@ -13,14 +12,10 @@ use Rattle.tree.proofs.Tree.claim.Goals as goal
 
 pub returns : goal.returns
 returns c =
-    let carrying = c in
-    let judging = carrying in
-    let keeping = judging in
-    let entry = keeping in
-    let asked = entry.args in
+    let asked = c.args in
     let t = asked.self in
     let call = claim_call 10 (slot_of t) asked.start asked.n in
-    let judge = judging.judged_change-judged.result in
-    let told = said_is t _ keeping.stored-stored.ensures call (answer_says judge) judging.judged_change-judged.ensures in
-    carries t _ keeping.stored-stored.ensures (is_tree t entry.well_formed.0) call asked.start asked.n true (claim_after 10 (slot_of t) asked.start asked.n) judge told _
-    (λ reply said. let passed = claim_passed 10 (slot_of t) asked.start asked.n reply said in (passed.0.1, passed.1)) (c.tree_of.ensures ∙ carrying.carried_out-left.ensures)
+    let judge = c.judged_change-judged.result in
+    let told = said_is t _ c.stored-stored.ensures call (answer_says judge) c.judged_change-judged.ensures in
+    carries t _ c.stored-stored.ensures (is_tree t c.well_formed.0) call asked.start asked.n true (claim_after 10 (slot_of t) asked.start asked.n) judge told _
+    (λ reply said. let passed = claim_passed 10 (slot_of t) asked.start asked.n reply said in (passed.0.1, passed.1)) (c.tree_of.ensures ∙ c.carried_out-left.ensures)

@@ -1,7 +1,5 @@
 -- `tree::Tree::empty` meets its contract: 1 where the tree is not sound, and else whether the summary is 0. Assumes nothing.
 use mathlib.Core.Path.{◌≡◌, sym, ap, ◌∙◌}
-use borrow.Author.Rules.{rules}
-use borrow.Author.Tests.{not-false}
 use Rattle.answers.specs.Said.{value}
 use Rattle.slots.proofs.Ways.{empty_says}
 use Rattle.slots.proofs.Outcomes.{shown_unsound, shown_sound}
@@ -18,7 +16,7 @@ After-sound = lts.After-sound tie.the-claims reads.Pre reads.Post
 
 -- the test is that of the tree
 tested_at : (c : After-sound) → c.sound.result ≡ tree_view.is_sound c.args.self
-tested_at c = let keeping = c in test_is keeping.args.self _ keeping.stored-stored.ensures _ c.sound.ensures
+tested_at c = test_is c.args.self _ c.stored-stored.ensures _ c.sound.ensures
 
 pub returns-then-not-sound : goal.returns-then-not-sound
 returns-then-not-sound c =
@@ -28,7 +26,6 @@ returns-then-not-sound c =
 pub returns : goal.returns
 returns c =
     let tested = c.before in
-    let entry = tested in
-    let t = entry.args.self in
-    ap value (empty_shown t (is_tree t entry.well_formed.0) (sym (tested_at tested) ∙ c.if-not-sound.false))
+    let t = tested.args.self in
+    ap value (empty_shown t (is_tree t tested.well_formed.0) (sym (tested_at tested) ∙ c.if-not-sound.false))
     ∙ sym (shown_sound tree_view t _ _ (tested_at tested) c.if-not-sound.false ∙ empty_says 10 (slot_of t))

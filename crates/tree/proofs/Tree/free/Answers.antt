@@ -1,7 +1,6 @@
 -- `tree::Tree::free` meets its contract: what was judged, carried out. Assumes nothing.
 use mathlib.Core.Path.{◌∙◌}
 use mathlib.Core.Bool.{false}
-use borrow.Author.Rules.{rules}
 use Rattle.answers.specs.Answers.{answer_says}
 use Rattle.slots.specs.Calls.{free_call}
 use Rattle.slots.specs.Promises.{free_after}
@@ -13,14 +12,10 @@ use Rattle.tree.proofs.Tree.free.Goals as goal
 
 pub returns : goal.returns
 returns c =
-    let carrying = c in
-    let judging = carrying in
-    let keeping = judging in
-    let entry = keeping in
-    let asked = entry.args in
+    let asked = c.args in
     let t = asked.self in
     let call = free_call 10 (slot_of t) asked.start asked.n in
-    let judge = judging.judged_change-judged.result in
-    let told = said_is t _ keeping.stored-stored.ensures call (answer_says judge) judging.judged_change-judged.ensures in
-    carries t _ keeping.stored-stored.ensures (is_tree t entry.well_formed.0) call asked.start asked.n false (free_after 10 (slot_of t) asked.start asked.n) judge told _
-    (λ reply said. let passed = free_passed 10 (slot_of t) asked.start asked.n reply said in (passed.0.1, passed.1)) (c.tree_of.ensures ∙ carrying.carried_out-left.ensures)
+    let judge = c.judged_change-judged.result in
+    let told = said_is t _ c.stored-stored.ensures call (answer_says judge) c.judged_change-judged.ensures in
+    carries t _ c.stored-stored.ensures (is_tree t c.well_formed.0) call asked.start asked.n false (free_after 10 (slot_of t) asked.start asked.n) judge told _
+    (λ reply said. let passed = free_passed 10 (slot_of t) asked.start asked.n reply said in (passed.0.1, passed.1)) (c.tree_of.ensures ∙ c.carried_out-left.ensures)

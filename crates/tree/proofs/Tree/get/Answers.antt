@@ -1,6 +1,5 @@
 -- `tree::Tree::get` meets its contract: 1 where the tree is not sound, and else what the judge says. Assumes nothing.
 use mathlib.Core.Path.{◌≡◌, sym, ◌∙◌}
-use borrow.Author.Rules.{rules}
 use Rattle.slots.proofs.Outcomes.{shown_unsound, shown_sound}
 use Rattle.tree.specs.Layout.{tree_view}
 use Rattle.tree.proofs.Outcomes.{test_is}
@@ -14,7 +13,7 @@ After-sound = lts.After-sound tie.the-claims reads.Pre reads.Post
 
 -- the test is that of the tree
 tested_at : (c : After-sound) → c.sound.result ≡ tree_view.is_sound c.args.self
-tested_at c = let keeping = c in test_is keeping.args.self _ keeping.stored-stored.ensures _ c.sound.ensures
+tested_at c = test_is c.args.self _ c.stored-stored.ensures _ c.sound.ensures
 
 pub returns-then-not-sound : goal.returns-then-not-sound
 returns-then-not-sound c =
@@ -23,6 +22,5 @@ returns-then-not-sound c =
 
 pub returns : goal.returns
 returns c =
-    let first = c in
-    let tested = first.before.before.before.before in
-    c.get.ensures ∙ sym (shown_sound tree_view tested.args.self _ _ (tested_at tested) first.if-not-sound.false)
+    let tested = c.before.before.before.before in
+    c.get.ensures ∙ sym (shown_sound tree_view tested.args.self _ _ (tested_at tested) c.if-not-sound.false)

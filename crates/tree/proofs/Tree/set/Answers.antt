@@ -1,6 +1,5 @@
 -- `tree::Tree::set` meets its contract: what was judged, carried out. Assumes nothing.
 use mathlib.Core.Path.{◌∙◌}
-use borrow.Author.Rules.{rules}
 use Rattle.answers.specs.Answers.{answer_says}
 use Rattle.slots.specs.Promises.{set_after}
 use Rattle.slots.specs.Calls.{set_call}
@@ -13,14 +12,10 @@ use Rattle.tree.proofs.Tree.set.Goals as goal
 pub returns : goal.returns
 unfolding answered set_call
 returns c =
-    let setting = c in
-    let judging = setting in
-    let keeping = judging in
-    let entry = keeping in
-    let asked = entry.args in
+    let asked = c.args in
     let t = asked.self in
     let call = set_call 10 (slot_of t) asked.start asked.n asked.used in
-    let judge = judging.judged_range-judged.result in
-    let told = said_is t _ keeping.stored-stored.ensures call (answer_says judge) judging.judged_range-judged.ensures in
-    carries_set t _ keeping.stored-stored.ensures (is_tree t entry.well_formed.0) call asked.start asked.n asked.used (set_after 10 (slot_of t) asked.start asked.n asked.used) judge told _
-    (c.tree_of.ensures ∙ setting.set_out-left.ensures)
+    let judge = c.judged_range-judged.result in
+    let told = said_is t _ c.stored-stored.ensures call (answer_says judge) c.judged_range-judged.ensures in
+    carries_set t _ c.stored-stored.ensures (is_tree t c.well_formed.0) call asked.start asked.n asked.used (set_after 10 (slot_of t) asked.start asked.n asked.used) judge told _
+    (c.tree_of.ensures ∙ c.set_out-left.ensures)

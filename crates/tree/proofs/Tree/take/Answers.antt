@@ -1,7 +1,6 @@
 -- `tree::Tree::take` meets its contract: what was judged, carried out. Assumes nothing.
 use mathlib.Core.Path.{◌≡◌, sym, ◌∙◌}
 use mathlib.Core.Bool.{true}
-use borrow.Author.Rules.{rules}
 use Rattle.answers.proofs.Judging.{told_at, told_refused}
 use Rattle.answers.specs.Said.{on_value}
 use Rattle.answers.specs.Answers.{at, next_free_says}
@@ -22,37 +21,31 @@ abbrev After-judged_take-found : Type 0
 After-judged_take-found = lts.After-judged_take tie.the-claims reads.Pre reads.Post
 
 pub judged_take-found-requires : goal.judged_take-found-requires
-judged_take-found-requires c = let entry = c in ((is_tree_means entry.args.self).0 (is_tree entry.args.self entry.well_formed.0)).0
+judged_take-found-requires c = ((is_tree_means c.args.self).0 (is_tree c.args.self c.well_formed.0)).0
 
 -- what was judged of the tree
-judged-at : (c : After-judged_take-found) → on_value at (next_free_says c.judged_take-found.result) ≡ answered tree_view c.args.self
+judged_at : (c : After-judged_take-found) → on_value at (next_free_says c.judged_take-found.result) ≡ answered tree_view c.args.self
     (take_call 10 (slot_of c.args.self) c.args.n c.args.a)
-judged-at c =
-    let keeping = c in
-    let asked = keeping.args in
-    said_is asked.self _ keeping.stored-stored.ensures (take_call 10 (slot_of asked.self) asked.n asked.a) _ c.judged_take-found.ensures
+judged_at c =
+    let asked = c.args in
+    said_is asked.self _ c.stored-stored.ensures (take_call 10 (slot_of asked.self) asked.n asked.a) _ c.judged_take-found.ensures
 
 pub returns-in-Refused : goal.returns-in-Refused
 returns-in-Refused c =
-    let known = c in
-    let judging = known.before in
+    let judging = c.before in
     let asked = judging.args in
     let t = asked.self in
     let call = take_call 10 (slot_of t) asked.n asked.a in
-    let why = known.in-Refused.why in
-    sym (says_refused tree_view t call (number_of why) (told_refused judging.judged_take-found.result (answered tree_view t call) (judged-at judging) why known.in-Refused.is))
+    let why = c.in-Refused.why in
+    sym (says_refused tree_view t call (number_of why) (told_refused judging.judged_take-found.result (answered tree_view t call) (judged_at judging) why c.in-Refused.is))
 
 pub returns-in-At : goal.returns-in-At
 returns-in-At c =
-    let carrying = c in
-    let known = carrying in
-    let judging = known.before.before.before.before in
-    let keeping = judging in
-    let entry = keeping in
-    let asked = entry.args in
+    let judging = c.before.before.before.before in
+    let asked = judging.args in
     let t = asked.self in
     let call = take_call 10 (slot_of t) asked.n asked.a in
-    let start = known.in-At.start in
-    let told = told_at judging.judged_take-found.result (answered tree_view t call) (judged-at judging) start known.in-At.is in
-    carries t _ keeping.stored-stored.ensures (is_tree t entry.well_formed.0) call start asked.n true (take_paints tree_view t asked.n asked.a start told) (At start) told _
-    (λ reply said. let fits = take_fits tree_view t asked.n asked.a start told in (fits.ends, fits.free)) (c.tree_of.ensures ∙ carrying.carried_out-left.ensures)
+    let start = c.in-At.start in
+    let told = told_at judging.judged_take-found.result (answered tree_view t call) (judged_at judging) start c.in-At.is in
+    carries t _ judging.stored-stored.ensures (is_tree t judging.well_formed.0) call start asked.n true (take_paints tree_view t asked.n asked.a start told) (At start) told _
+    (λ reply said. let fits = take_fits tree_view t asked.n asked.a start told in (fits.ends, fits.free)) (c.tree_of.ensures ∙ c.carried_out-left.ensures)

@@ -1,5 +1,4 @@
 -- `word::Word::capacity` meets its contract: the capacity of its size. Assumes nothing.
-use borrow.Author.Rules.{rules}
 use Rattle.slots.specs.Calls.{capacity}
 use Rattle.word.proofs.Word.capacity.Goals as goal
 

@@ -1,7 +1,6 @@
 -- `word::Word::claim` meets its contract: what was judged of its one word, carried out. Assumes nothing.
 use mathlib.Core.Path.{◌∙◌}
 use mathlib.Core.Bool.{true}
-use borrow.Author.Rules.{rules}
 use Rattle.slots.specs.Sets.{Slots}
 use Rattle.slots.specs.Calls.{claim_call}
 use Rattle.slots.specs.Promises.{claim_after}
@@ -12,10 +11,8 @@ use Rattle.word.proofs.Word.claim.Goals as goal
 
 pub returns : goal.returns
 returns c =
-    let judging = c in
-    let entry = judging in
-    let asked = entry.args in
+    let asked = c.args in
     let w = asked.self in
-    let held = is_word w entry.well_formed.0 in
-    carries w held _ asked.start asked.n true (claim_after 6 (slot_of w) asked.start asked.n) judging.change-judged.result
-    (judging.change-judged.ensures ∙ answers w held (λ (S : Slots). claim_call 6 S asked.start asked.n)) _ c.carried_out.ensures
+    let held = is_word w c.well_formed.0 in
+    carries w held _ asked.start asked.n true (claim_after 6 (slot_of w) asked.start asked.n) c.change-judged.result
+    (c.change-judged.ensures ∙ answers w held (λ (S : Slots). claim_call 6 S asked.start asked.n)) _ c.carried_out.ensures

@@ -9,4 +9,4 @@ use Rattle.word.proofs.Word.empty.Goals as goal
 
 pub returns : goal.returns
 unfolding answered judged empty_call
-returns c = let entry = c in ap value (empty_shown entry.args.self (is_word entry.args.self entry.well_formed.0))
+returns c = ap value (empty_shown c.args.self (is_word c.args.self c.well_formed.0))

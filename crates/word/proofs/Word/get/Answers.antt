@@ -1,6 +1,5 @@
 -- `word::Word::get` meets its contract: what the judge says of its one word. Assumes nothing.
 use mathlib.Core.Path.{◌∙◌}
-use borrow.Author.Rules.{rules}
 use Rattle.slots.specs.Sets.{Slots}
 use Rattle.slots.specs.Calls.{get_call}
 use Rattle.word.proofs.Values.{is_word}
@@ -9,6 +8,5 @@ use Rattle.word.proofs.Word.get.Goals as goal
 
 pub returns : goal.returns
 returns c =
-    let entry = c in
-    let w = entry.args.self in
-    c.get.ensures ∙ answers w (is_word w entry.well_formed.0) (λ (S : Slots). get_call 6 S entry.args.slot)
+    let w = c.args.self in
+    c.get.ensures ∙ answers w (is_word w c.well_formed.0) (λ (S : Slots). get_call 6 S c.args.slot)

@@ -1,6 +1,5 @@
 -- `word::Word::next_free` meets its contract: what the judge says of its one word. Assumes nothing.
 use mathlib.Core.Path.{◌∙◌}
-use borrow.Author.Rules.{rules}
 use Rattle.slots.specs.Sets.{Slots}
 use Rattle.slots.specs.Calls.{next_free_call}
 use Rattle.word.proofs.Values.{is_word}
@@ -9,6 +8,5 @@ use Rattle.word.proofs.Word.next_free.Goals as goal
 
 pub returns : goal.returns
 returns c =
-    let entry = c in
-    let w = entry.args.self in
-    c.next_free.ensures ∙ searched_from w (is_word w entry.well_formed.0) (λ (S : Slots). next_free_call 6 S entry.args.start) entry.args.start
+    let w = c.args.self in
+    c.next_free.ensures ∙ searched_from w (is_word w c.well_formed.0) (λ (S : Slots). next_free_call 6 S c.args.start) c.args.start

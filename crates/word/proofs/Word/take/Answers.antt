@@ -1,7 +1,6 @@
 -- `word::Word::take` meets its contract: what was judged of its one word, carried out. Assumes nothing.
 use mathlib.Core.Path.{sym, ◌∙◌}
 use mathlib.Core.Bool.{true}
-use borrow.Author.Rules.{rules}
 use Rattle.answers.proofs.Judging.{told_at, told_refused}
 use Rattle.answers.specs.Refusals.{number_of}
 use Rattle.answers.specs.declared.Answer.TheVariants.{At}
@@ -16,25 +15,19 @@ use Rattle.word.proofs.Word.take.Goals as goal
 
 pub returns-in-Refused : goal.returns-in-Refused
 returns-in-Refused c =
-    let known = c in
-    let judging = known in
-    let entry = judging in
-    let asked = entry.args in
+    let asked = c.args in
     let w = asked.self in
     let call = take_call 6 (slot_of w) asked.n asked.a in
-    let why = known.in-Refused.why in
-    let told = judging.take-found.ensures ∙ searched w (is_word w entry.well_formed.0) (λ (S : Slots). take_call 6 S asked.n asked.a) in
-    sym (says_refused word_view w call (number_of why) (told_refused judging.take-found.result (answered word_view w call) told why known.in-Refused.is))
+    let why = c.in-Refused.why in
+    let told = c.take-found.ensures ∙ searched w (is_word w c.well_formed.0) (λ (S : Slots). take_call 6 S asked.n asked.a) in
+    sym (says_refused word_view w call (number_of why) (told_refused c.take-found.result (answered word_view w call) told why c.in-Refused.is))
 
 pub returns-in-At : goal.returns-in-At
 returns-in-At c =
-    let known = c in
-    let judging = known in
-    let entry = judging in
-    let asked = entry.args in
+    let asked = c.args in
     let w = asked.self in
-    let held = is_word w entry.well_formed.0 in
+    let held = is_word w c.well_formed.0 in
     let call = take_call 6 (slot_of w) asked.n asked.a in
-    let start = known.in-At.start in
-    let told = told_at judging.take-found.result (answered word_view w call) (judging.take-found.ensures ∙ searched w held (λ (S : Slots). take_call 6 S asked.n asked.a)) start known.in-At.is in
+    let start = c.in-At.start in
+    let told = told_at c.take-found.result (answered word_view w call) (c.take-found.ensures ∙ searched w held (λ (S : Slots). take_call 6 S asked.n asked.a)) start c.in-At.is in
     carries w held call start asked.n true (take_paints word_view w asked.n asked.a start told) (At start) told _ c.carried_out.ensures

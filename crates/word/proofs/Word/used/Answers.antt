@@ -1,6 +1,5 @@
 -- `word::Word::used` meets its contract, which is that of the one word's count. Assumes nothing.
 use mathlib.Core.Path.{ap}
-use borrow.Author.Rules.{rules}
 use Rattle.answers.specs.Said.{value, judged}
 use Rattle.slots.specs.Calls.{used_call}
 use Rattle.slots.specs.View.{answered}
