@@ -12,7 +12,7 @@ Of antt it knows no more than the layout that `rt fmt` makes, and takes this for
 - A comment is whole lines. It belongs to the declaration right below it; a line of `-- ----` heads a part of the file.
 - A file uses no name of its own above the declaration of that name, and declares no name twice.
 
-Of Rattle it knows `use` items, structs, enums and the heads of functions, laid out by `rt fmt` too: what a brace at the
+Of Rattle it knows `use` items, structs, enums, traits and the heads of functions, laid out by `rt fmt` too: what a brace at the
 left edge closes, and what ends in the brace that opens a body, which stands alone on its line below a contract. A clause of
 a contract begins its line, with `requires` or `ensures`, a name where it has one, and a brace.
 
@@ -133,6 +133,8 @@ class Source:
     imports: list
     declarations: list
     functions: list = field(default_factory=list)
+    methods: list = field(default_factory=list)  # of its public traits, which declare them with their contracts
+    aliases: list = field(default_factory=list)  # the other names of types that a source gives
 
     @property
     def crate(self):
@@ -336,7 +338,8 @@ def read_antt(path, text):
 # ---- a file of Rattle
 
 
-RATTLE_TYPE = re.compile(r"(?P<pub>pub )?(?P<form>struct|enum) (?P<name>\w+)")
+ALIAS = re.compile(r"(?:pub(?:\(crate\))? )?type (\w+) =")
+RATTLE_TYPE = re.compile(r"(?P<pub>pub )?(?:pub\(crate\) )?(?P<form>struct|enum|trait) (?P<name>\w+)")
 FUNCTION = re.compile(r'(?P<indent> *)(?P<pub>pub )?(?:pub\(crate\) )?(?:const )?(?:unsafe )?(?:extern "C" )?fn (?P<name>\w+)')
 CLAUSE = re.compile(r"\s*(?:requires|ensures|ghost)\b")
 CONSTANT = re.compile(r" *(?:pub(?:\(crate\))? )?const (?P<name>\w+)")
@@ -352,34 +355,56 @@ class Piece:
     end: int
     text: str
     public: bool
+    of_trait: bool  # a method of an impl of a public trait, of its file or of the library
+
+
+IMPL = re.compile(r"impl(?:<.*?>)? (?:(?P<trait>\w+)(?:<(?P<of>.*)>)? for )?(?P<type>\w+)")
+# the traits of the library whose impls here state what each gives (`from_gives`)
+OF_LIBRARY = ("From", "TryFrom")
+
+
+def owner_of(line):
+    """The name that rt gives the functions of a block before theirs: its type with a capital, and behind it the trait and what the trait is of, where there is one."""
+    begun = IMPL.match(line)
+    words = [begun["type"], begun["trait"] or "", *re.findall(r"\w+", begun["of"] or "")] if begun else []
+    return "".join(word[:1].upper() + word[1:] for word in words)
+
+
+def only_declared(lines, start):
+    """Whether the function that begins there has no body: a trait declares it, and it ends with a semicolon."""
+    for line in lines[start:]:
+        if line.endswith(("{", ";")):
+            return line.endswith(";")
+    return False
 
 
 def pieces(file, text):
     """The functions and the constants of a source of a crate: each function ends at the brace of its own indentation."""
     module = "::".join([*module_of(f"crates/of/{file}")[1:], ""])
-    functions, constants, owner, at, begun = [], [], "", 0, None
-    for line in text.splitlines(keepends=True):
+    functions, constants, owner, of_trait, at, begun = [], [], "", False, 0, None
+    lines, traits = text.splitlines(), [*OF_LIBRARY, *re.findall(r"^pub trait (\w+)", text, re.M)]
+    for number, line in enumerate(text.splitlines(keepends=True)):
         bare = line.rstrip("\n")
         if begun is None:
             function, constant = FUNCTION.match(line), CONSTANT.match(line)
-            if function:
+            if function and not only_declared(lines, number):
                 begun = (functions, module + owner + function["name"], at, function["indent"] + "}", bool(function["pub"]))
             elif constant:
                 begun = (constants, module + owner + constant["name"], at, None, False)
-            elif bare.startswith("impl "):
-                owner = bare.split()[1] + "::"
+            elif owner_of(bare):
+                owner, of_trait = owner_of(bare) + "::", IMPL.match(bare)["trait"] in traits
             elif bare == "}":
-                owner = ""
+                owner, of_trait = "", False
         at += len(line)
         if begun and (bare == begun[3] or (begun[3] is None and bare.endswith(";"))):
             into, name, begin, _, public = begun
-            into.append(Piece(name, file, begin, at, text[begin:at], public))
+            into.append(Piece(name, file, begin, at, text[begin:at], public, of_trait))
             begun = None
     return functions, constants
 
 
 def module_of(path):
-    """crates/rounding/src/wide.rt is the module rounding::wide, and a crate's lib.rt is the crate."""
+    """crates/rounding/src/pages.rt is the module rounding::pages, and a crate's lib.rt is the crate."""
     _, crate, _, *inner = path.removesuffix(".rt").split("/")
     return [crate, *(part for part in inner if part not in ("lib", "main"))]
 
@@ -412,23 +437,42 @@ def rattle_function(path, lines, start, owner):
         stop += 1
         told = told or bool(CLAUSE.match(lines[stop]))
     head = "\n".join(lines[start : stop + 1]).removesuffix("{").rstrip()
+    return function_of(path, head, [*owner, begun["name"]], bool(begun["pub"]))
+
+
+def trait_method(path, lines, start, trait):
+    """A method that a trait declares ends at the semicolon behind its contract. It is as public as the trait."""
+    begun, stop = FUNCTION.match(lines[start].strip()), start
+    while not lines[stop].endswith(";"):
+        stop += 1
+    head = "\n".join(lines[start : stop + 1]).removesuffix(";")
+    return function_of(path, head, [trait["name"], begun["name"]], bool(trait["pub"]))
+
+
+def function_of(path, head, name, public):
     signature, *contract = re.split(r"\n(?=\s*(?:requires|ensures)\b)", head)
-    name = "::".join([*module_of(path), *owner, begun["name"]])
-    return Function(path, name, bool(begun["pub"]), signature, "\n".join(contract))
+    return Function(path, "::".join([*module_of(path), *name]), public, signature, "\n".join(contract))
 
 
 def read_rattle(path, text):
-    lines, owner = text.splitlines(), []
+    lines, owner, trait = text.splitlines(), [], None
     source = source_of(path, lines, [])
     for start, line in enumerate(lines):
-        if line.startswith("impl "):
-            owner = [line.split()[1]]
+        if owner_of(line):
+            owner = [owner_of(line)]
         elif line == "}":
-            owner = []
+            owner, trait = [], None
+        elif ALIAS.match(line):
+            source.aliases.append(ALIAS.match(line)[1])
         elif RATTLE_TYPE.match(line):
             source.declarations.append(rattle_type(path, lines, start))
-        elif FUNCTION.match(line.strip()):
-            source.functions.append(rattle_function(path, lines, start, owner))
+            trait = RATTLE_TYPE.match(line) if RATTLE_TYPE.match(line)["form"] == "trait" else None
+        elif FUNCTION.match(line.strip()) and not only_declared(lines, start):
+            function = rattle_function(path, lines, start, [trait["name"]] if trait else owner)
+            function.public = function.public or bool(trait and trait["pub"])
+            source.functions.append(function)
+        elif FUNCTION.match(line.strip()) and trait:
+            source.methods.append(trait_method(path, lines, start, trait))
     return source
 
 
@@ -502,6 +546,7 @@ class Crates:
         self.crates = {path.split("/")[1] for path in texts}
         self.sources = {path: readers[path.split("/")[2]](path, text) for path, text in texts.items()}
         self.types = {(*module_of(one.path), one.name): one for one in self.declared_in("src")}
+        self.aliases = {(*module_of(one.path), name) for one in self.of("src") for name in one.aliases}
         self.headers = {source.path: self.header(source) for source in [*self.of("src"), *self.stated()]}
         for one in self.statements():
             one.kind = self.kind_of(one)
@@ -580,8 +625,9 @@ class Crates:
         parts = tuple(source.crate if part == "crate" else part for part in one.module.split("::"))
         found = self.types.get((source.crate, *parts)) or self.types.get(parts)
         of_ours = any(path.startswith(f"crates/{parts[0]}/") for path in self.sources)
-        if found is None and of_ours and re.match(r"[A-Z][a-z]", parts[-1]):
-            raise Wrong(f"{source.path} uses {one.module}, and there is no such struct or enum")
+        is_alias = (source.crate, *parts) in self.aliases or parts in self.aliases
+        if found is None and not is_alias and of_ours and re.match(r"[A-Z][a-z]", parts[-1]):
+            raise Wrong(f"{source.path} uses {one.module}, and there is no such struct, enum or trait")
         return {one.alias or parts[-1]: found} if found else {}
 
     def header(self, source):

@@ -1,15 +1,15 @@
 -- The three questions of this crate in document 01's terms: the k lowest places, one place, and the places from one to another, each as a
 -- number of 64 bits. Then what each means, digit by digit, and that its contract leaves one answer. Rests on `Digits` and on `answers`.
-use Rattle.std.specs.Prelude.{◌≡◌, refl, ◌&&◌, [], ◌∷◌, ℕ, ◌-◌, ◌^◌, ◌≤◌, ◌<◌, min, leb, ltb}
+use Rattle.std.specs.Prelude.{◌≡◌, refl, ◌&&◌, [], ◌∷◌, ℕ, ◌-◌, ◌^◌, ◌≤◌, ◌<◌, min, leb, ltb, Result}
 use Rattle.std.proofs.Common.{sym, ◌∙◌, arith}
 use Rattle.std.proofs.Math.Nat.{min-eq_left}
 use Rattle.std.specs.Int.Count.{ones, ones-ones}
 use Rattle.answers.specs.Said.{Said, value, ◌when◌, judged}
 use Rattle.answers.specs.Faults.{◌if◌, FaultsDecide, finds_lt}
 use Rattle.answers.proofs.Faults.{faults_decide}
-use Rattle.answers.specs.Answers.{number_says}
-use Rattle.answers.proofs.Answers.{number_says_injective}
-use Rattle.answers.specs.declared.Number.{Number}
+use Rattle.answers.specs.Answers.{answer_says}
+use Rattle.answers.proofs.Answers.{answer_says_injective}
+use Rattle.answers.specs.declared.Refusal.{Refusal}
 use Rattle.bits.specs.Digits.{number}
 
 -- ---- what is answered
@@ -34,20 +34,20 @@ mask_between s e = judged ((4 when ltb 63 e) ∷ (10 when ltb e s) ∷ []) (plac
 abbrev pub LowMaskSays : ℕ → ℕ → Type 0
 LowMaskSays k r = r ≡ low_mask k
 
-abbrev pub OneBitSays : ℕ → Number → Type 0
-OneBitSays position r = number_says r ≡ one_bit position
+abbrev pub OneBitSays : ℕ → Result ℕ Refusal → Type 0
+OneBitSays position r = answer_says r ≡ one_bit position
 
-abbrev pub MaskSays : ℕ → ℕ → Number → Type 0
-MaskSays start end r = number_says r ≡ mask_between start end
+abbrev pub MaskSays : ℕ → ℕ → Result ℕ Refusal → Type 0
+MaskSays start end r = answer_says r ≡ mask_between start end
 
 pub low_mask_one_answer : (k r s : ℕ) → LowMaskSays k r → LowMaskSays k s → r ≡ s
 low_mask_one_answer k r s p q = p ∙ sym q
 
-pub one_bit_one_answer : (position : ℕ) (r s : Number) → OneBitSays position r → OneBitSays position s → r ≡ s
-one_bit_one_answer position r s p q = number_says_injective r s (p ∙ sym q)
+pub one_bit_one_answer : (position : ℕ) (r s : Result ℕ Refusal) → OneBitSays position r → OneBitSays position s → r ≡ s
+one_bit_one_answer position r s p q = answer_says_injective r s (p ∙ sym q)
 
-pub mask_one_answer : (start end : ℕ) (r s : Number) → MaskSays start end r → MaskSays start end s → r ≡ s
-mask_one_answer start end r s p q = number_says_injective r s (p ∙ sym q)
+pub mask_one_answer : (start end : ℕ) (r s : Result ℕ Refusal) → MaskSays start end r → MaskSays start end s → r ≡ s
+mask_one_answer start end r s p q = answer_says_injective r s (p ∙ sym q)
 
 -- ---- what the answers mean
 

@@ -2,12 +2,9 @@
 // A place is counted from the lowest, 0, to the highest, 63. Rests on `answers`.
 #![tactic(auto)]
 
-ghost use Rattle.std.specs.Prelude.{◌≡◌, min};
 ghost use Rattle.bits.specs.Masks.{LowMaskSays, OneBitSays, MaskSays};
 
-use answers::{Number, Refusal};
-
-const ALL: u64 = 0xffff_ffff_ffff_ffff;
+use answers::Refusal;
 
 // Entry k has ones in the k lowest places.
 const LOW_MASKS: [u64; 65] = [
@@ -83,41 +80,30 @@ const LOW_MASKS: [u64; 65] = [
 pub fn low_mask(k: usize) -> u64
     ensures { LowMaskSays k result }
 {
-    let width = at_most_64(k);
-    LOW_MASKS[width]
-}
-
-// The lesser of k and 64: the entry of the table that k asks for.
-fn at_most_64(k: usize) -> usize
-    ensures { result ≡ min k 64 }
-{
-    if 64 < k {
-        return 64;
-    }
-    k
+    LOW_MASKS[k.min(64)]
 }
 
 // The number with a one at this place alone; refused with 4 for a place above 63.
-pub fn one_bit(position: usize) -> Number
+pub fn one_bit(position: usize) -> Result<u64, Refusal>
     ensures { OneBitSays position result }
 {
     if 63 < position {
-        return Number::Refused(Refusal::PastTheEnd);
+        return Err(Refusal::PastTheEnd);
     }
-    Number::Is(1 << position)
+    Ok(1 << position)
 }
 
 // The number with ones from place `start` to place `end`, both included; refused with 4 for an end
 // above 63, then with 10 for an end before its start. No shift is by 64: of all ones, as many are
 // kept as the range has places, and moved up to its start.
-pub fn mask(start: usize, end: usize) -> Number
+pub fn mask(start: usize, end: usize) -> Result<u64, Refusal>
     ensures { MaskSays start end result }
 {
     if 63 < end {
-        return Number::Refused(Refusal::PastTheEnd);
+        return Err(Refusal::PastTheEnd);
     }
     if end < start {
-        return Number::Refused(Refusal::EndBeforeStart);
+        return Err(Refusal::EndBeforeStart);
     }
-    Number::Is((ALL >> (63 - (end - start))) << start)
+    Ok((u64::MAX >> (63 - (end - start))) << start)
 }

@@ -2,7 +2,8 @@
 -- by computing. Two rows of ours stand at its end. Rests on `tree`.
 use Rattle.std.specs.Prelude.{◌≡◌, refl, Bool, true, false, List, [], ◌∷◌, ℕ, ◌-◌, ◌^◌, eqb}
 use Rattle.answers.specs.Said.{Said, value, refused, judged, leaving}
-use Rattle.answers.specs.Answers.{Reply, at, ok}
+use Rattle.answers.specs.declared.Reply.{Reply}
+use Rattle.answers.specs.declared.Reply.TheVariants.{At as at, Done as ok}
 use Rattle.bits.specs.Range.{least, every, within, count}
 use Rattle.bits.specs.Digits.{digit, number}
 use Rattle.slots.specs.Sets.{all_free, all_used, painted}

@@ -1,98 +1,41 @@
-// What is asked of a map of any size, or of a state of jobs: its name, the call and its numbers. The answer follows on the same line.
-use crate::{names, show};
+// What the lines tell of, and what is asked of it: its name, the call and its numbers. The answer follows on the same line.
 use std::io;
 
-// How many slots a run has, and what its start is a multiple of.
-pub fn run(rt: &impl Print, n: usize, a: usize) -> io::Result<()> {
-    show::number(rt, n as u64)?;
-    show::text(rt, b" at a multiple of 2^")?;
-    show::number(rt, a as u64)
+// A map of any size, or what holds one: a state of jobs, or an image. With it its name and where it is told.
+#[derive(Drop)]
+pub struct Told<'a, P, M> {
+    pub rt: &'a P,
+    pub name: &'a str,
+    pub map: M,
 }
 
-pub fn take(rt: &impl Print, name: u8, n: usize, a: usize) -> io::Result<()> {
-    names::put(rt, name)?;
-    show::text(rt, b": take ")?;
-    run(rt, n, a)
+// As in `on(rt, names::FULL_TREE, Tree::new_full()).take(1, 0)`: the name, the call and what came of it are one line.
+pub fn on<'a, P: Print, M>(rt: &'a P, name: &'a str, map: M) -> Told<'a, P, M> {
+    Told { rt, name, map }
 }
 
-// The slot from which a range goes on, and how many it has.
-pub fn range(rt: &impl Print, start: usize, n: usize) -> io::Result<()> {
-    show::number(rt, start as u64)?;
-    show::text(rt, b", ")?;
-    show::number(rt, n as u64)
-}
-
-pub fn claim(rt: &impl Print, name: u8, start: usize, n: usize) -> io::Result<()> {
-    names::put(rt, name)?;
-    show::text(rt, b": claim from ")?;
-    range(rt, start, n)
-}
-
-pub fn free(rt: &impl Print, name: u8, start: usize, n: usize) -> io::Result<()> {
-    names::put(rt, name)?;
-    show::text(rt, b": free from ")?;
-    range(rt, start, n)
-}
-
-pub fn set(rt: &impl Print, name: u8, start: usize, n: usize, used: bool) -> io::Result<()> {
-    names::put(rt, name)?;
-    if used {
-        show::text(rt, b": set used from ")?;
-    } else {
-        show::text(rt, b": set free from ")?;
+impl<'a, P: Print, M> Told<'a, P, M> {
+    // A call without numbers.
+    pub fn ask(&self, call: &str) -> io::Result<()> {
+        let name = self.name;
+        print!(self.rt; "{name}: {call}")
     }
-    range(rt, start, n)
-}
 
-pub fn next_free(rt: &impl Print, name: u8, start: usize) -> io::Result<()> {
-    names::put(rt, name)?;
-    show::text(rt, b": next free from ")?;
-    show::number(rt, start as u64)
-}
+    // A call on a slot, or from a slot on.
+    pub fn ask_slot(&self, call: &str, slot: usize) -> io::Result<()> {
+        let name = self.name;
+        print!(self.rt; "{name}: {call} {slot}")
+    }
 
-pub fn get(rt: &impl Print, name: u8, slot: usize) -> io::Result<()> {
-    names::put(rt, name)?;
-    show::text(rt, b": is used ")?;
-    show::number(rt, slot as u64)
-}
+    // A call on so many slots from a start on.
+    pub fn ask_range(&self, call: &str, start: usize, n: usize) -> io::Result<()> {
+        let name = self.name;
+        print!(self.rt; "{name}: {call} from {start}, {n}")
+    }
 
-pub fn empty(rt: &impl Print, name: u8) -> io::Result<()> {
-    names::put(rt, name)?;
-    show::text(rt, b": empty")
-}
-
-pub fn used(rt: &impl Print, name: u8) -> io::Result<()> {
-    names::put(rt, name)?;
-    show::text(rt, b": used")
-}
-
-pub fn capacity(rt: &impl Print, name: u8) -> io::Result<()> {
-    names::put(rt, name)?;
-    show::text(rt, b": capacity")
-}
-
-// ---- of a state of jobs alone
-
-pub fn start(rt: &impl Print, name: u8, n: usize, a: usize) -> io::Result<()> {
-    names::put(rt, name)?;
-    show::text(rt, b": start ")?;
-    run(rt, n, a)
-}
-
-pub fn reap(rt: &impl Print, name: u8, start: usize, n: usize) -> io::Result<()> {
-    names::put(rt, name)?;
-    show::text(rt, b": reap from ")?;
-    range(rt, start, n)
-}
-
-pub fn record(rt: &impl Print, name: u8, start: usize, n: usize) -> io::Result<()> {
-    names::put(rt, name)?;
-    show::text(rt, b": record from ")?;
-    range(rt, start, n)
-}
-
-pub fn state(rt: &impl Print, name: u8, slot: usize) -> io::Result<()> {
-    names::put(rt, name)?;
-    show::text(rt, b": state of ")?;
-    show::number(rt, slot as u64)
+    // A call for so many slots, wherever they are at a multiple of this power of two.
+    pub fn ask_run(&self, call: &str, n: usize, a: usize) -> io::Result<()> {
+        let name = self.name;
+        print!(self.rt; "{name}: {call} {n} at a multiple of 2^{a}")
+    }
 }

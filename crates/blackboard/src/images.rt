@@ -1,28 +1,33 @@
 // Images: those of some maps byte for byte, what write and read answer, and the calls for C. A buffer is one byte longer than
-// an image, and a call is lent its first bytes. After the answer stands how many bytes of the buffer are then others than
-// before, or the map that was read.
-ghost use Rattle.std.specs.Prelude.{◌<◌, ◌≤◌, length};
+// an image, and a call is lent its first bytes: how many stands beside the buffer, since more of it is shown. After the answer
+// stands how many bytes of the buffer are then others than before, or the map that was read.
+ghost use Rattle.std.specs.Prelude.{◌<◌, ◌≤◌};
 
-use crate::{asked, names, show, trees};
-use image::{ImageAnswer, Reading};
+use crate::asked::{Told, on};
+use crate::calls::Shown;
+use crate::edges::tree_with;
+use crate::{names, show, trees};
+use answers::Reply;
+use image::ImageRefusal;
 use std::io;
 use tree::Tree;
 
 // ---- buffers
 
-// The map's image, in a buffer whose bytes were all 85.
-fn image_of(map: Tree) -> [u8; 137] {
-    let mut bytes = [85u8; 137];
-    image::write(map, &mut bytes[..136]);
+type Buffer = [u8; 137];
+
+const NEW: Buffer = [85; 137];
+
+// The map's image, in a new buffer.
+fn image_of(map: Tree) -> Buffer {
+    let mut bytes = NEW;
+    // The maps that are shown so are sound.
+    let _ = image::write(map, &mut bytes[..136]);
     bytes
 }
 
-fn tree_with(slot: usize) -> Tree {
-    Tree::new_empty().claim(slot, 1).map
-}
-
 // The same bytes, but for one at offset `at`.
-fn with_byte(bytes: [u8; 137], at: usize, byte: u8) -> [u8; 137]
+fn with_byte(bytes: Buffer, at: usize, byte: u8) -> Buffer
     requires { at < 137 }
 {
     let mut others = bytes;
@@ -30,379 +35,238 @@ fn with_byte(bytes: [u8; 137], at: usize, byte: u8) -> [u8; 137]
     others
 }
 
-// The image with its second field first.
-fn exchanged(bytes: [u8; 137]) -> [u8; 137] {
+// The image with its second field first. `rotate_left` of its first 136 bytes was tried, and so were `rotate_right` and two
+// copies of slices: their proofs did not close.
+fn exchanged(bytes: Buffer) -> Buffer {
     let mut others = bytes;
-    let mut i = 0;
-    while i < 136 {
-        others[i] = bytes[(i + 131) % 136];
-        i += 1;
+    for (i, byte) in others.iter_mut().enumerate().take(136) {
+        *byte = bytes[(i + 131) % 136];
     }
     others
 }
 
-// 1 where the bytes differ, else 0.
-fn differs(before: u8, after: u8) -> u64
-    ensures { result ≤ 1 }
-{
-    if before == after {
-        return 0;
-    }
-    1
-}
-
-fn differing(before: [u8; 137], after: [u8; 137]) -> u64 {
-    let mut count = 0;
-    let mut i = 0;
-    while i < 137 {
-        count += differs(before[i], after[i]);
-        i += 1;
-    }
-    count
-}
-
-// ---- each call on the first bytes of a buffer
-
-fn write_lent(map: Tree, bytes: &mut [u8], size: usize) -> ImageAnswer
-    requires { size ≤ length bytes.old }
-{
-    image::write(map, &mut bytes[0..size])
-}
-
-fn read_lent(bytes: &[u8], size: usize) -> Reading
-    requires { size ≤ length bytes.now }
-{
-    image::read(&bytes[0..size])
-}
-
-fn take_lent(bytes: &mut [u8], size: usize, n: usize, a: usize) -> i32
-    requires { size ≤ length bytes.old }
-{
-    image::slotmap_take(&mut bytes[0..size], n, a)
-}
-
-fn free_lent(bytes: &mut [u8], size: usize, start: usize, n: usize) -> i32
-    requires { size ≤ length bytes.old }
-{
-    image::slotmap_free(&mut bytes[0..size], start, n)
-}
-
-fn used_lent(bytes: &[u8], size: usize) -> i32
-    requires { size ≤ length bytes.now }
-{
-    image::slotmap_used(&bytes[0..size])
-}
-
 // ---- parts of a line
 
-fn spaced(rt: &impl Print, byte: u8) -> io::Result<()> {
-    show::text(rt, b" ")?;
-    show::number(rt, byte as u64)
-}
-
-fn each(rt: &impl Print, bytes: [u8; 137]) -> io::Result<()> {
-    let mut i = 0;
-    while i < 136 {
-        spaced(rt, bytes[i])?;
-        i += 1;
-    }
-    Ok(())
-}
-
-fn lent(rt: &impl Print, size: usize) -> io::Result<()> {
-    show::text(rt, b", lent ")?;
-    show::number(rt, size as u64)?;
-    show::text(rt, b" bytes")
-}
-
-fn answer(rt: &impl Print, said: ImageAnswer) -> io::Result<()> {
-    match said {
-        ImageAnswer::Done => show::text(rt, b": ok"),
-        ImageAnswer::Refused(why) => show::refused(rt, why.number()),
-    }
-}
-
-// The number as it is, or 0 where it is below that.
-fn whole(n: i32) -> u64
-    ensures { result < 4294967296 }
-{
-    if n < 0 {
-        return 0;
-    }
-    n as u64
-}
-
-// A number that may be below 0. The complement of n is -n - 1.
-fn signed(rt: &impl Print, n: i32) -> io::Result<()> {
-    show::text(rt, b": ")?;
-    if n < 0 {
-        show::text(rt, b"-")?;
-        return show::number(rt, whole(!n) + 1);
-    }
-    show::number(rt, whole(n))
+fn answer(rt: &impl Print, said: Result<(), ImageRefusal>) -> io::Result<()> {
+    let said = said.map(|_| Reply::Done);
+    show::answer(rt, said.map_err(|why| why.number()))
 }
 
 // To the end of the line.
-fn changed(rt: &impl Print, before: [u8; 137], after: [u8; 137]) -> io::Result<()> {
-    show::text(rt, b", bytes changed ")?;
-    show::number(rt, differing(before, after))?;
-    show::text(rt, b"\n")
+fn changed(rt: &impl Print, before: Buffer, after: Buffer) -> io::Result<()> {
+    let count = before.iter().zip(&after).filter(|(b, a)| b != a).count();
+    println!(rt; ", bytes changed {count}")
+}
+
+// What follows the name of what is read, to the end of the line.
+fn read_from(rt: &impl Print, bytes: Buffer, size: usize) -> io::Result<()>
+    requires { size ≤ 137 }
+{
+    let reading = image::read(&bytes[..size]);
+    print!(rt; ": read, lent {size} bytes")?;
+    answer(rt, reading.answer)?;
+    reading.map.shown(rt)
 }
 
 // ---- lines
 
-fn listed(rt: &impl Print, name: u8, bytes: [u8; 137]) -> io::Result<()> {
-    show::text(rt, b"image of the ")?;
-    names::put(rt, name)?;
-    show::text(rt, b":")?;
-    each(rt, bytes)?;
-    show::text(rt, b"\n")
+impl<'a, P: Print> Told<'a, P, Tree> {
+    fn write(&self, size: usize) -> io::Result<()>
+        requires { size ≤ 137 }
+    {
+        let mut after = NEW;
+        let said = image::write(self.map, &mut after[..size]);
+        self.ask("write")?;
+        print!(self.rt; ", lent {size} bytes")?;
+        answer(self.rt, said)?;
+        changed(self.rt, NEW, after)
+    }
 }
 
-fn write(rt: &impl Print, name: u8, map: Tree, size: usize) -> io::Result<()>
-    requires { size ≤ 137 }
-{
-    let before = [85u8; 137];
-    let mut after = [85u8; 137];
-    let said = write_lent(map, &mut after, size);
-    names::put(rt, name)?;
-    show::text(rt, b": write")?;
-    lent(rt, size)?;
-    answer(rt, said)?;
-    changed(rt, before, after)
-}
+impl<'a, P: Print> Told<'a, P, Buffer> {
+    fn listed(&self) -> io::Result<()> {
+        let name = self.name;
+        print!(self.rt; "image of the {name}:")?;
+        for byte in &self.map[..136] {
+            print!(self.rt; " {byte}")?;
+        }
+        show::text(self.rt, b"\n")
+    }
 
-// What follows the name of what is read.
-fn read_from(rt: &impl Print, bytes: [u8; 137], size: usize) -> io::Result<()>
-    requires { size ≤ 137 }
-{
-    let reading = read_lent(&bytes, size);
-    let said = reading.answer;
-    let map = reading.map;
-    show::text(rt, b": read")?;
-    lent(rt, size)?;
-    answer(rt, said)?;
-    trees::shown(rt, map)
-}
+    fn read(&self, size: usize) -> io::Result<()>
+        requires { size ≤ 137 }
+    {
+        let name = self.name;
+        print!(self.rt; "{name}")?;
+        read_from(self.rt, self.map, size)
+    }
 
-fn read(rt: &impl Print, name: u8, bytes: [u8; 137], size: usize) -> io::Result<()>
-    requires { size ≤ 137 }
-{
-    names::put(rt, name)?;
-    read_from(rt, bytes, size)
-}
+    // With another byte at offset `at`.
+    fn read_with(&self, at: usize, byte: u8) -> io::Result<()>
+        requires { at < 137 }
+    {
+        let name = self.name;
+        print!(self.rt; "{name}, byte {at} as {byte}")?;
+        read_from(self.rt, with_byte(self.map, at, byte), 136)
+    }
 
-// With another byte at offset `at`.
-fn read_with(rt: &impl Print, name: u8, bytes: [u8; 137], at: usize, byte: u8) -> io::Result<()>
-    requires { at < 137 }
-{
-    names::put(rt, name)?;
-    show::asked(rt, b", byte ", at as u64, b" as ", byte as u64)?;
-    read_from(rt, with_byte(bytes, at, byte), 136)
-}
+    // The map that is read is written into another buffer, and this one is held to the first.
+    fn read_again(&self) -> io::Result<()> {
+        self.read(136)?;
+        let again = image_of(image::read(&self.map[..136]).map);
+        self.ask("read and written again")?;
+        changed(self.rt, self.map, again)
+    }
 
-// The map that is read is written into another buffer, and this one is held to the first.
-fn read_again(rt: &impl Print, name: u8, bytes: [u8; 137]) -> io::Result<()> {
-    read(rt, name, bytes, 136)?;
-    let again = image_of(read_lent(&bytes, 136).map);
-    names::put(rt, name)?;
-    show::text(rt, b": read and written again")?;
-    changed(rt, bytes, again)
-}
+    // What follows what is asked of C. Answers the bytes that are left, for a next call.
+    fn left(&self, size: usize, said: i32, after: Buffer) -> io::Result<Buffer> {
+        print!(self.rt; ", lent {size} bytes: {said}")?;
+        changed(self.rt, self.map, after)?;
+        Ok(after)
+    }
 
-// What follows what is asked of C. Answers the bytes that are left, for a next call.
-fn left(
-    rt: &impl Print,
-    before: [u8; 137],
-    after: [u8; 137],
-    size: usize,
-    said: i32,
-) -> io::Result<[u8; 137]> {
-    lent(rt, size)?;
-    signed(rt, said)?;
-    changed(rt, before, after)?;
-    Ok(after)
-}
+    fn slotmap_take(&self, size: usize, n: usize, a: usize) -> io::Result<Buffer>
+        requires { size ≤ 137 }
+    {
+        let mut after = self.map;
+        let said = image::slotmap_take(&mut after[..size], n, a);
+        self.ask_run("slotmap_take", n, a)?;
+        self.left(size, said, after)
+    }
 
-fn take(
-    rt: &impl Print,
-    name: u8,
-    bytes: [u8; 137],
-    size: usize,
-    n: usize,
-    a: usize,
-) -> io::Result<[u8; 137]>
-    requires { size ≤ 137 }
-{
-    let mut after = bytes;
-    let said = take_lent(&mut after, size, n, a);
-    names::put(rt, name)?;
-    show::text(rt, b": slotmap_take ")?;
-    asked::run(rt, n, a)?;
-    left(rt, bytes, after, size, said)
-}
+    fn slotmap_free(&self, size: usize, start: usize, n: usize) -> io::Result<Buffer>
+        requires { size ≤ 137 }
+    {
+        let mut after = self.map;
+        let said = image::slotmap_free(&mut after[..size], start, n);
+        self.ask_range("slotmap_free", start, n)?;
+        self.left(size, said, after)
+    }
 
-fn free(
-    rt: &impl Print,
-    name: u8,
-    bytes: [u8; 137],
-    size: usize,
-    start: usize,
-    n: usize,
-) -> io::Result<[u8; 137]>
-    requires { size ≤ 137 }
-{
-    let mut after = bytes;
-    let said = free_lent(&mut after, size, start, n);
-    names::put(rt, name)?;
-    show::text(rt, b": slotmap_free from ")?;
-    asked::range(rt, start, n)?;
-    left(rt, bytes, after, size, said)
-}
+    fn slotmap_used(&self, size: usize) -> io::Result<Buffer>
+        requires { size ≤ 137 }
+    {
+        let said = image::slotmap_used(&self.map[..size]);
+        self.ask("slotmap_used")?;
+        self.left(size, said, self.map)
+    }
 
-fn used(rt: &impl Print, name: u8, bytes: [u8; 137], size: usize) -> io::Result<()>
-    requires { size ≤ 137 }
-{
-    let said = used_lent(&bytes, size);
-    names::put(rt, name)?;
-    show::text(rt, b": slotmap_used")?;
-    left(rt, bytes, bytes, size, said)?;
-    Ok(())
+    // Each call refuses what is no image, and then an image under a wrong summary, before all else.
+    fn each_call(&self, size: usize) -> io::Result<()>
+        requires { size ≤ 137 }
+    {
+        self.slotmap_take(size, 0, 10)?;
+        self.slotmap_take(size, 1, 0)?;
+        self.slotmap_free(size, 0, 0)?;
+        self.slotmap_free(size, 0, 1)?;
+        self.slotmap_used(size)?;
+        Ok(())
+    }
 }
 
 // ---- what is asked
 
 pub fn of_maps(rt: &impl Print) -> io::Result<()> {
-    listed(rt, names::EMPTY_TREE, image_of(Tree::new_empty()))?;
-    listed(rt, names::FULL_TREE, image_of(Tree::new_full()))?;
-    listed(rt, names::TREE_WITH_SLOT_0, image_of(tree_with(0)))?;
-    listed(rt, names::TREE_WITH_SLOT_1023, image_of(tree_with(1023)))
+    on(rt, names::EMPTY_TREE, image_of(Tree::new_empty())).listed()?;
+    on(rt, names::FULL_TREE, image_of(Tree::new_full())).listed()?;
+    on(rt, names::TREE_WITH_SLOT_0, image_of(tree_with(0, 1))).listed()?;
+    on(rt, names::TREE_WITH_SLOT_1023, image_of(tree_with(1023, 1))).listed()
 }
 
-// Of a map that is not sound, also into a buffer that is too short: 16 comes before 1.
-fn unsound_write(rt: &impl Print, name: u8, bad: Tree) -> io::Result<()> {
-    write(rt, name, bad, 136)?;
-    write(rt, name, bad, 135)
-}
-
+// A map that is not sound is written into a buffer that is too short too: 16 comes before 1.
 pub fn writes(rt: &impl Print) -> io::Result<()> {
-    let empty = Tree::new_empty();
-    let full = Tree::new_full();
-    write(rt, names::EMPTY_TREE, empty, 0)?;
-    write(rt, names::EMPTY_TREE, empty, 135)?;
-    write(rt, names::EMPTY_TREE, empty, 137)?;
-    write(rt, names::EMPTY_TREE, empty, 136)?;
-    unsound_write(rt, names::NO_SLOT_UNDER_SUMMARY_1, empty.with_summary(1))?;
-    unsound_write(
-        rt,
-        names::ALL_SLOTS_UNDER_SUMMARY_32767,
-        full.with_summary(32767),
-    )?;
-    unsound_write(
-        rt,
-        names::FULL_TREE_WITH_FULL_MARK_32767,
-        full.with_full(32767),
-    )?;
-    unsound_write(rt, names::EMPTY_TREE_WITH_FULL_MARK_1, empty.with_full(1))?;
-    unsound_write(rt, names::EMPTY_TREE_WITH_COUNT_1, empty.with_count(1))?;
-    unsound_write(rt, names::FULL_TREE_WITH_COUNT_1023, full.with_count(1023))
+    let empty = on(rt, names::EMPTY_TREE, Tree::new_empty());
+    empty.write(0)?;
+    empty.write(135)?;
+    empty.write(137)?;
+    empty.write(136)?;
+    for (name, map) in trees::unsound() {
+        let bad = on(rt, name, map);
+        bad.write(136)?;
+        bad.write(135)?;
+    }
+    Ok(())
 }
 
 // What is an image, and what is not: by its length, by a byte of a header, by the order of the fields. And images under a
 // wrong summary, of which some are none by their length or a tag.
 pub fn reads(rt: &impl Print) -> io::Result<()> {
-    read_again(rt, names::EMPTY_IMAGE, image_of(Tree::new_empty()))?;
-    read_again(rt, names::FULL_IMAGE, image_of(Tree::new_full()))?;
-    read_again(rt, names::IMAGE_WITH_SLOT_1023, image_of(tree_with(1023)))?;
-    let name = names::IMAGE_WITH_SLOT_0;
-    let bytes = image_of(tree_with(0));
-    read_again(rt, name, bytes)?;
-    read(rt, name, bytes, 0)?;
-    read(rt, name, bytes, 135)?;
-    read(rt, name, bytes, 137)?;
-    read_with(rt, name, bytes, 0, 33)?;
-    read_with(rt, name, bytes, 1, 127)?;
-    read_with(rt, name, bytes, 2, 1)?;
-    read_with(rt, name, bytes, 131, 32)?;
-    read_with(rt, name, bytes, 132, 3)?;
-    read_with(rt, name, bytes, 133, 1)?;
-    read_with(rt, name, bytes, 134, 3)?;
-    read_with(rt, name, bytes, 135, 128)?;
-    read(
+    on(rt, names::EMPTY_IMAGE, image_of(Tree::new_empty())).read_again()?;
+    on(rt, names::FULL_IMAGE, image_of(Tree::new_full())).read_again()?;
+    on(
         rt,
-        names::IMAGE_WITH_SLOT_0_FIELDS_EXCHANGED,
-        exchanged(bytes),
-        136,
-    )?;
-    let other = names::IMAGE_WITH_SLOT_0_UNDER_NO_SUMMARY;
+        names::IMAGE_WITH_SLOT_1023,
+        image_of(tree_with(1023, 1)),
+    )
+    .read_again()?;
+    let bytes = image_of(tree_with(0, 1));
+    let first = on(rt, names::IMAGE_WITH_SLOT_0, bytes);
+    first.read_again()?;
+    first.read(0)?;
+    first.read(135)?;
+    first.read(137)?;
+    first.read_with(0, 33)?;
+    first.read_with(1, 127)?;
+    first.read_with(2, 1)?;
+    first.read_with(131, 32)?;
+    first.read_with(132, 3)?;
+    first.read_with(133, 1)?;
+    first.read_with(134, 3)?;
+    first.read_with(135, 128)?;
+    let other = names::IMAGE_WITH_SLOT_0_FIELDS_EXCHANGED;
+    on(rt, other, exchanged(bytes)).read(136)?;
     let bad = with_byte(bytes, 134, 0);
-    read(rt, other, bad, 136)?;
-    read(rt, other, bad, 135)?;
-    read_with(rt, other, bad, 0, 33)?;
-    read_with(rt, other, bad, 131, 32)
+    let under_none = on(rt, names::IMAGE_WITH_SLOT_0_UNDER_NO_SUMMARY, bad);
+    under_none.read(136)?;
+    under_none.read(135)?;
+    under_none.read_with(0, 33)?;
+    under_none.read_with(131, 32)
 }
 
 // The calls of document 01's record, each on the bytes that the one before left.
 pub fn record(rt: &impl Print) -> io::Result<()> {
-    let name = names::RECORD_OF_DOCUMENT_01;
     let empty = image_of(Tree::new_empty());
-    let three = take(rt, name, empty, 136, 3, 2)?;
-    let five = take(rt, name, three, 136, 2, 0)?;
-    let two = free(rt, name, five, 136, 1, 3)?;
-    let same = free(rt, name, two, 136, 0, 2)?;
-    let six = take(rt, name, same, 136, 4, 2)?;
-    used(rt, name, six, 136)?;
-    listed(rt, name, six)
+    let mut record = on(rt, names::RECORD_OF_DOCUMENT_01, empty);
+    record.map = record.slotmap_take(136, 3, 2)?;
+    record.map = record.slotmap_take(136, 2, 0)?;
+    record.map = record.slotmap_free(136, 1, 3)?;
+    record.map = record.slotmap_free(136, 0, 2)?;
+    record.map = record.slotmap_take(136, 4, 2)?;
+    record.slotmap_used(136)?;
+    record.listed()
 }
 
 // The refusals in their order, and beside some of them the call that is accepted.
 pub fn refused_calls(rt: &impl Print) -> io::Result<()> {
-    let empty = image_of(Tree::new_empty());
-    let full = image_of(Tree::new_full());
-    take(rt, names::EMPTY_IMAGE, empty, 136, 0, 10)?;
-    take(rt, names::EMPTY_IMAGE, empty, 136, 1, 10)?;
-    take(rt, names::EMPTY_IMAGE, empty, 136, 1025, 10)?;
-    take(rt, names::EMPTY_IMAGE, empty, 136, 1025, 0)?;
-    take(rt, names::EMPTY_IMAGE, empty, 136, 1024, 9)?;
-    take(rt, names::FULL_IMAGE, full, 136, 1, 0)?;
-    free(rt, names::EMPTY_IMAGE, empty, 136, 0, 0)?;
-    free(rt, names::EMPTY_IMAGE, empty, 136, 1024, 1)?;
-    free(rt, names::EMPTY_IMAGE, empty, 136, 18446744073709551615, 2)?;
-    free(rt, names::EMPTY_IMAGE, empty, 136, 1023, 1)?;
-    free(rt, names::FULL_IMAGE, full, 136, 1023, 2)?;
-    free(rt, names::FULL_IMAGE, full, 136, 0, 1024)?;
-    used(rt, names::EMPTY_IMAGE, empty, 136)?;
-    used(rt, names::FULL_IMAGE, full, 136)
-}
-
-// Each call refuses what is no image, and then an image under a wrong summary, before all else.
-fn each_call(rt: &impl Print, name: u8, bytes: [u8; 137], size: usize) -> io::Result<()>
-    requires { size ≤ 137 }
-{
-    take(rt, name, bytes, size, 0, 10)?;
-    take(rt, name, bytes, size, 1, 0)?;
-    free(rt, name, bytes, size, 0, 0)?;
-    free(rt, name, bytes, size, 0, 1)?;
-    used(rt, name, bytes, size)
+    let empty = on(rt, names::EMPTY_IMAGE, image_of(Tree::new_empty()));
+    let full = on(rt, names::FULL_IMAGE, image_of(Tree::new_full()));
+    empty.slotmap_take(136, 0, 10)?;
+    empty.slotmap_take(136, 1, 10)?;
+    empty.slotmap_take(136, 1025, 10)?;
+    empty.slotmap_take(136, 1025, 0)?;
+    empty.slotmap_take(136, 1024, 9)?;
+    full.slotmap_take(136, 1, 0)?;
+    empty.slotmap_free(136, 0, 0)?;
+    empty.slotmap_free(136, 1024, 1)?;
+    empty.slotmap_free(136, 18446744073709551615, 2)?;
+    empty.slotmap_free(136, 1023, 1)?;
+    full.slotmap_free(136, 1023, 2)?;
+    full.slotmap_free(136, 0, 1024)?;
+    empty.slotmap_used(136)?;
+    full.slotmap_used(136)?;
+    Ok(())
 }
 
 pub fn wrong_images(rt: &impl Print) -> io::Result<()> {
-    let bytes = image_of(tree_with(0));
+    let bytes = image_of(tree_with(0, 1));
     let bad = with_byte(bytes, 134, 0);
-    each_call(rt, names::IMAGE_WITH_SLOT_0_UNDER_NO_SUMMARY, bad, 136)?;
-    each_call(
-        rt,
-        names::IMAGE_WITH_SLOT_0_BYTE_0_AS_33,
-        with_byte(bytes, 0, 33),
-        136,
-    )?;
-    each_call(
-        rt,
-        names::IMAGE_WITH_SLOT_0_UNDER_NO_SUMMARY_BYTE_0_AS_33,
-        with_byte(bad, 0, 33),
-        136,
-    )?;
-    each_call(rt, names::IMAGE_WITH_SLOT_0, bytes, 0)?;
-    each_call(rt, names::IMAGE_WITH_SLOT_0, bytes, 135)?;
-    each_call(rt, names::IMAGE_WITH_SLOT_0, bytes, 137)
+    on(rt, names::IMAGE_WITH_SLOT_0_UNDER_NO_SUMMARY, bad).each_call(136)?;
+    let other = names::IMAGE_WITH_SLOT_0_BYTE_0_AS_33;
+    on(rt, other, with_byte(bytes, 0, 33)).each_call(136)?;
+    let both = names::IMAGE_WITH_SLOT_0_UNDER_NO_SUMMARY_BYTE_0_AS_33;
+    on(rt, both, with_byte(bad, 0, 33)).each_call(136)?;
+    let first = on(rt, names::IMAGE_WITH_SLOT_0, bytes);
+    first.each_call(0)?;
+    first.each_call(135)?;
+    first.each_call(137)
 }

@@ -3,6 +3,7 @@
 #![tactic(auto)]
 
 mod asked;
+mod calls;
 mod edges;
 mod images;
 mod lesson;
@@ -15,6 +16,7 @@ mod thirds;
 mod trees;
 mod words;
 
+use asked::on;
 use std::io;
 use tree::Tree;
 use word::Word;
@@ -81,21 +83,23 @@ fn main(rt: HostRuntime) -> io::Result<()> {
 
 // The lines of "Maps on the blackboard" that have no star.
 fn documented(rt: &impl Print) -> io::Result<()> {
-    show::align_up(rt, 4097, 4096)?;
-    show::align_up(rt, 18446744073709547520, 4096)?;
-    show::align_up(rt, 18446744073709547521, 4096)?;
-    show::align_up(rt, 5, 3)?;
-    show::align_up(rt, 5, 0)?;
-    show::align_down(rt, 5, 3)?;
-    show::align_down(rt, 5, 0)?;
-    show::is_aligned(rt, 5, 3)?;
-    show::is_aligned(rt, 5, 0)?;
+    show::align_up(rt, 4097u64, 4096)?;
+    show::align_up(rt, 18446744073709547520u64, 4096)?;
+    show::align_up(rt, 18446744073709547521u64, 4096)?;
+    show::align_up(rt, 5u64, 3)?;
+    show::align_up(rt, 5u64, 0)?;
+    show::align_down(rt, 5u64, 3)?;
+    show::align_down(rt, 5u64, 0)?;
+    show::is_aligned(rt, 5u64, 3)?;
+    show::is_aligned(rt, 5u64, 0)?;
     show::overlap(rt, 0, 4, 4, 8)?;
     show::overlap(rt, 0, 3, 4, 8)?;
     show::overlap(rt, 5, 3, 0, 10)?;
-    words::take(rt, names::EMPTY_WORD, Word::new_empty(), 1, 5)?;
-    words::take(rt, names::EMPTY_WORD, Word::new_empty(), 1, 6)?;
-    trees::next_free(rt, names::EMPTY_TREE, Tree::new_empty(), 1023)?;
-    trees::next_free(rt, names::EMPTY_TREE, Tree::new_empty(), 1024)?;
-    trees::next_free(rt, names::FULL_TREE, Tree::new_full(), 0)
+    let word = on(rt, names::EMPTY_WORD, Word::new_empty());
+    word.take(1, 5)?;
+    word.take(1, 6)?;
+    let tree = on(rt, names::EMPTY_TREE, Tree::new_empty());
+    tree.next_free(1023)?;
+    tree.next_free(1024)?;
+    on(rt, names::FULL_TREE, Tree::new_full()).next_free(0)
 }

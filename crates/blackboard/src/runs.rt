@@ -4,39 +4,34 @@ use crate::show;
 use std::io;
 use tree::Stored;
 
-// One slot further: where a run of used slots begins or ends, that is printed. Answers whether the
-// slot is used; `last` is the slot before it, and `inside` whether that one is.
-fn edge(rt: &impl Print, slot: usize, last: usize, inside: bool, used: bool) -> io::Result<bool> {
-    if used {
-        if !inside {
-            show::text(rt, b" ")?;
-            show::number(rt, slot as u64)?;
-        }
-        return Ok(true);
+// One slot further: where a run of used slots begins or ends, that is printed. Answers the slot where it
+// is used; `last` is the slot before it, where that one is.
+fn edge(
+    rt: &impl Print,
+    last: Option<usize>,
+    slot: usize,
+    used: bool,
+) -> io::Result<Option<usize>> {
+    match (last, used) {
+        (None, true) => print!(rt; " {slot}")?,
+        (Some(last), false) => print!(rt; "..{last}")?,
+        _ => {}
     }
-    if inside {
-        show::text(rt, b"..")?;
-        show::number(rt, last as u64)?;
-    }
-    Ok(false)
+    Ok(used.then_some(slot))
 }
 
 // The runs, beginning and end of each. After the last slot a run ends.
 fn put(rt: &impl Print, words: &[u64], slots: usize) -> io::Result<()> {
-    let mut slot = 0;
-    let mut last = 0;
-    let mut inside = false;
-    while slot < slots {
-        let used = rows::get(words, slot);
-        inside = edge(rt, slot, last, inside, used)?;
-        last = slot;
-        slot += 1;
+    let mut last = None;
+    for slot in 0..slots {
+        last = edge(rt, last, slot, rows::get(words, slot))?;
     }
-    edge(rt, slot, last, inside, false)?;
+    edge(rt, last, slots, false)?;
     Ok(())
 }
 
-// The runs of slots that these words hold, so many slots in all; none is said as such.
+// The runs of slots that these words hold, none said as such. How many slots stands beside the words, since of a slice
+// alone it is not known that 64 times its length is a number.
 pub fn held(rt: &impl Print, words: &[u64], slots: usize) -> io::Result<()> {
     if rows::count(words) == 0 {
         show::text(rt, b" none")?;
@@ -52,16 +47,12 @@ pub fn left(rt: &impl Print, words: &[u64], slots: usize, summary: u16) -> io::R
 }
 
 fn under(rt: &impl Print, summary: u16) -> io::Result<()> {
-    show::text(rt, b" under summary ")?;
-    show::number(rt, summary as u64)
+    print!(rt; " under summary {summary}")
 }
 
 // What is stored beside the summary: the mark of full words and the count.
 pub fn beside(rt: &impl Print, full: u16, count: u16) -> io::Result<()> {
-    show::text(rt, b", full mark ")?;
-    show::number(rt, full as u64)?;
-    show::text(rt, b", count ")?;
-    show::number(rt, count as u64)
+    print!(rt; ", full mark {full}, count {count}")
 }
 
 // All that a tree stores.

@@ -3,6 +3,7 @@
 // with its input.
 #![tactic(auto)]
 
+mod calls;
 mod image;
 mod numbers;
 mod said;
@@ -10,73 +11,47 @@ mod thirds;
 mod trees;
 mod words;
 
+use calls::Call;
+use image::Image;
 use std::io;
 use std::io::{ErrorKind, Read};
 
+// `main` and `served` stand so in three programs: a library for them would have no answer to promise, since no contract
+// says what a stream gives.
 fn main(rt: HostRuntime) -> io::Result<()> {
-    let mut input = rt.stdin();
-    let mut request = [0u8; 152];
+    match served(&rt, &mut rt.stdin()) {
+        Err(why) if why.kind() == ErrorKind::UnexpectedEof => Ok(()),
+        ended => ended,
+    }
+}
+
+// Answers request after request. The input's end is an error of the read that meets it.
+fn served(rt: &impl Print, input: &mut impl Read) -> io::Result<()> {
+    let mut request = [[0u8; 8]; 19];
+    let mut words = [[0u8; 8]; 256];
     // A loop has to end, and no run uses up so many turns.
     for _ in 0..u64::MAX {
-        if !filled(&mut input, &mut request)? {
-            return Ok(());
-        }
-        if !served(&rt, &mut input, &request)? {
-            return Ok(());
+        input.read_exact(request.as_flattened_mut())?;
+        let number = image::call(&request);
+        if number > 64 {
+            input.read_exact(words.as_flattened_mut())?;
+            let call = Call::from(number - 64);
+            let (answer, left) = thirds::answered(&request, call, words.map(u64::from_le_bytes));
+            rt.write_all(answer.as_flattened())?;
+            rt.write_all(left.map(u64::to_le_bytes).as_flattened())?;
+        } else {
+            rt.write_all(answered(&request, number).as_flattened())?;
         }
     }
     Ok(())
 }
 
-// Fills the buffer from the input; whether the input had so many bytes left.
-fn filled(input: &mut impl Read, buffer: &mut [u8]) -> io::Result<bool> {
-    match input.read_exact(buffer) {
-        Ok(()) => Ok(true),
-        Err(why) => {
-            if why.kind() == ErrorKind::UnexpectedEof {
-                Ok(false)
-            } else {
-                Err(why)
-            }
-        }
+fn answered(request: &Image, number: u8) -> Image {
+    match number {
+        1..=8 => trees::answered(request, Call::from(number)),
+        17..=24 => words::answered(request, Call::from(number - 16)),
+        33 => trees::taken_in_place(request),
+        35 => trees::freed_in_place(request),
+        _ => numbers::answered(request, number),
     }
-}
-
-// Answers a request. Whether there is more to answer: not where the input has ended.
-fn served(rt: &impl Print, input: &mut impl Read, request: &[u8; 152]) -> io::Result<bool> {
-    let call = request[0];
-    if call > 64 {
-        return third_served(rt, input, request);
-    }
-    let answer = answered(request);
-    rt.write_all(&answer)?;
-    Ok(true)
-}
-
-// The same of a call on a third level, whose words follow.
-fn third_served(rt: &impl Print, input: &mut impl Read, request: &[u8; 152]) -> io::Result<bool> {
-    let mut words = [0u8; 2048];
-    if !filled(input, &mut words)? {
-        return Ok(false);
-    }
-    let whole = thirds::answered(request, &words);
-    let answer = whole.answer;
-    rt.write_all(&answer)?;
-    let left = whole.words;
-    rt.write_all(&left)?;
-    Ok(true)
-}
-
-// The map is handed back as it came where the call does not change it.
-fn answered(request: &[u8; 152]) -> [u8; 152] {
-    let mut answer = image::blank(request);
-    let call = request[0];
-    match call {
-        1..=4 | 33 | 35 => trees::change(request, &mut answer),
-        5..=8 => image::put_said(&mut answer, trees::told(request)),
-        17..=20 => words::change(request, &mut answer),
-        21..=24 => image::put_said(&mut answer, words::told(request)),
-        _ => image::put_said(&mut answer, numbers::told(request)),
-    }
-    answer
 }

@@ -1,62 +1,54 @@
-// What was said, as an answer's kind and number.
-use answers::{Answer, NarrowNumber, NextFree, Number, Refusal, Truth};
+// What an accepted call says. A refusal has kind 0 and its number. `compared_jobs` has the same with what a slot is, of
+// which this program knows nothing: a library for both would need contracts and laws of its own, to serve two comparisons.
+use answers::{Refusal, Reply};
 
-#[derive(Drop)]
-pub struct Said {
-    pub kind: u8,
-    pub number: u64,
+#[derive(Clone, Copy)]
+pub enum Said {
+    Done,
+    Number(u64),
+    Truth(bool),
 }
 
-fn refused(why: Refusal) -> Said {
-    Said {
-        kind: 0,
-        number: why.number() as u64,
+impl From<Reply> for Said {
+    fn from(reply: Reply) -> Said {
+        match reply {
+            Reply::At(start) => Said::from(start),
+            Reply::Done => Said::Done,
+        }
     }
 }
 
-pub(crate) fn number(n: u64) -> Said {
-    Said { kind: 2, number: n }
-}
-
-pub(crate) fn truth(yes: bool) -> Said {
-    Said {
-        kind: if yes { 4 } else { 3 },
-        number: 0,
+impl From<bool> for Said {
+    fn from(yes: bool) -> Said {
+        Said::Truth(yes)
     }
 }
 
-pub(crate) fn of_answer(answer: Answer) -> Said {
-    match answer {
-        Answer::At(start) => number(start as u64),
-        Answer::Done => Said { kind: 1, number: 0 },
-        Answer::Refused(why) => refused(why),
+impl From<u64> for Said {
+    fn from(n: u64) -> Said {
+        Said::Number(n)
     }
 }
 
-pub(crate) fn of_next_free(answer: NextFree) -> Said {
-    match answer {
-        NextFree::At(slot) => number(slot as u64),
-        NextFree::Refused(why) => refused(why),
+impl From<u32> for Said {
+    fn from(n: u32) -> Said {
+        Said::Number(u64::from(n))
     }
 }
 
-pub(crate) fn of_truth(answer: Truth) -> Said {
-    match answer {
-        Truth::Is(yes) => truth(yes),
-        Truth::Refused(why) => refused(why),
+impl From<usize> for Said {
+    fn from(n: usize) -> Said {
+        Said::Number(n as u64)
     }
 }
 
-pub(crate) fn of_number(answer: Number) -> Said {
-    match answer {
-        Number::Is(n) => number(n),
-        Number::Refused(why) => refused(why),
-    }
-}
-
-pub(crate) fn of_narrow(answer: NarrowNumber) -> Said {
-    match answer {
-        NarrowNumber::Is(n) => number(n as u64),
-        NarrowNumber::Refused(why) => refused(why),
+// An answer's kind and number.
+pub(crate) fn kind_and_number(said: Result<Said, Refusal>) -> (u8, u64) {
+    match said {
+        Err(why) => (0, u64::from(why.number())),
+        Ok(Said::Done) => (1, 0),
+        Ok(Said::Number(n)) => (2, n),
+        Ok(Said::Truth(false)) => (3, 0),
+        Ok(Said::Truth(true)) => (4, 0),
     }
 }

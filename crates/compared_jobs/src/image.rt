@@ -1,4 +1,5 @@
-// Requests and answers: 38 numbers of 64 bits, each as eight bytes, low byte first.
+// Requests and answers: 38 numbers of 64 bits, each as eight bytes, low byte first. A call
+// is a number and no enum, as the programs that ask have it: it is looked at once, and any other makes the empty state.
 //
 //   0         the call; of an answer its kind: 0 refused, 1 done, 2 a number, 3 no, 4 yes, 5 what a slot is
 //   1         the slots of a start, else the start of a range or the slot; of an answer its number, or the
@@ -11,35 +12,14 @@
 //   22 to 37  the words of the reaped slots
 ghost use Rattle.std.specs.Prelude.{◌+◌, ◌≤◌};
 
+use crate::said;
 use crate::said::Said;
-use jobs::Jobs;
+use jobs::{JobRefusal, Jobs};
 use tree::Tree;
 
 const USED: usize = 6;
 
 const REAPED: usize = 22;
-
-// The numbers of a request.
-pub(crate) fn numbers(bytes: &[u8; 304]) -> [u64; 38] {
-    let mut numbers = [0u64; 38];
-    let mut at = 304;
-    while at > 0 {
-        at -= 1;
-        numbers[at / 8] = numbers[at / 8] << 8 | wide(bytes[at]);
-    }
-    numbers
-}
-
-// The bytes of an answer.
-pub(crate) fn bytes(numbers: &[u64; 38]) -> [u8; 304] {
-    let mut bytes = [0u8; 304];
-    let mut at = 0;
-    while at < 304 {
-        bytes[at] = low_byte(numbers[at / 8] >> (8 * (at % 8)));
-        at += 1;
-    }
-    bytes
-}
 
 // The state of a request, sound or not.
 pub(crate) fn jobs(asked: &[u64; 38]) -> Jobs {
@@ -51,15 +31,14 @@ pub(crate) fn jobs(asked: &[u64; 38]) -> Jobs {
 }
 
 // The answer with what was said and the state that is left.
-pub(crate) fn answer(said: Said, left: Jobs) -> [u64; 38] {
+pub(crate) fn answer(said: Result<Said, JobRefusal>, left: Jobs) -> [u64; 38] {
     let mut answer = [0u64; 38];
-    answer[0] = said.kind;
-    answer[1] = said.number;
-    answer[3] = wide_half(left.summary());
-    answer[4] = wide_half(left.full());
-    answer[5] = wide_half(left.count());
-    put_words(&mut answer, USED, left.words());
-    put_words(&mut answer, REAPED, left.reaped());
+    (answer[0], answer[1]) = said::kind_and_number(said);
+    answer[3] = u64::from(left.summary());
+    answer[4] = u64::from(left.full());
+    answer[5] = u64::from(left.count());
+    answer[USED..REAPED].copy_from_slice(&left.words());
+    answer[REAPED..].copy_from_slice(&left.reaped());
     answer
 }
 
@@ -68,37 +47,10 @@ fn words(numbers: &[u64; 38], at: usize) -> [u64; 16]
     requires { at + 16 ≤ 38 }
 {
     let mut words = [0u64; 16];
-    let mut i = 0;
-    while i < 16 {
-        words[i] = numbers[at + i];
-        i += 1;
-    }
+    words.copy_from_slice(&numbers[at..at + 16]);
     words
 }
 
-// Puts sixteen numbers from this place on.
-fn put_words(numbers: &mut [u64; 38], at: usize, words: [u64; 16])
-    requires { at + 16 ≤ 38 }
-{
-    let mut i = 0;
-    while i < 16 {
-        numbers[at + i] = words[i];
-        i += 1;
-    }
-}
-
-fn wide(byte: u8) -> u64 {
-    byte as u64
-}
-
-fn wide_half(half: u16) -> u64 {
-    half as u64
-}
-
-fn low_byte(n: u64) -> u8 {
-    (n % 256) as u8
-}
-
 fn low_half(n: u64) -> u16 {
-    (n % 65536) as u16
+    (n & 0xffff) as u16
 }

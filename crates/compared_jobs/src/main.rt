@@ -6,43 +6,31 @@
 mod image;
 mod said;
 
-use jobs::{Changed, Jobs};
+use answers::{Changed, Refusal};
+use jobs::{JobRefusal, Jobs};
+use said::Said;
 use std::io;
 use std::io::{ErrorKind, Read};
 
+// `main` and `served` stand so in three programs: a library for them would have no answer to promise, since no contract
+// says what a stream gives.
 fn main(rt: HostRuntime) -> io::Result<()> {
-    let mut input = rt.stdin();
-    let mut request = [0u8; 304];
+    match served(&rt, &mut rt.stdin()) {
+        Err(why) if why.kind() == ErrorKind::UnexpectedEof => Ok(()),
+        ended => ended,
+    }
+}
+
+// Answers request after request. The input's end is an error of the read that meets it.
+fn served(rt: &impl Print, input: &mut impl Read) -> io::Result<()> {
+    let mut request = [[0u8; 8]; 38];
     // A loop has to end, and no run uses up so many turns.
     for _ in 0..u64::MAX {
-        if !filled(&mut input, &mut request)? {
-            return Ok(());
-        }
-        served(&rt, &request)?;
+        input.read_exact(request.as_flattened_mut())?;
+        let answer = answered(&request.map(u64::from_le_bytes)).map(u64::to_le_bytes);
+        rt.write_all(answer.as_flattened())?;
     }
     Ok(())
-}
-
-// Fills the buffer from the input; whether the input had so many bytes left.
-fn filled(input: &mut impl Read, buffer: &mut [u8]) -> io::Result<bool> {
-    match input.read_exact(buffer) {
-        Ok(()) => Ok(true),
-        Err(why) => {
-            if why.kind() == ErrorKind::UnexpectedEof {
-                Ok(false)
-            } else {
-                Err(why)
-            }
-        }
-    }
-}
-
-// Answers a request.
-fn served(rt: &impl Print, request: &[u8; 304]) -> io::Result<()> {
-    let asked = image::numbers(request);
-    let told = answered(&asked);
-    let answer = image::bytes(&told);
-    rt.write_all(&answer)
 }
 
 // The calls: 1 start, 2 reap, 3 record, 4 state, 5 empty, 6 used, 7 capacity. Any other makes the empty
@@ -56,16 +44,19 @@ fn answered(asked: &[u64; 38]) -> [u64; 38] {
         1 => changed(jobs.start(x, y)),
         2 => changed(jobs.reap(x, y)),
         3 => changed(jobs.record(x, y)),
-        4 => image::answer(said::of_state(jobs.state(x)), jobs),
-        5 => image::answer(said::of_truth(jobs.empty()), jobs),
-        6 => image::answer(said::of_number(jobs.used()), jobs),
-        7 => image::answer(said::number(jobs.capacity()), jobs),
-        _ => image::answer(said::done(), Jobs::new_empty()),
+        4 => told(jobs.state(x).map(Said::from), jobs),
+        5 => told(jobs.empty().map(Said::from), jobs),
+        6 => told(jobs.used().map(Said::from), jobs),
+        7 => told(Ok(Said::from(jobs.capacity())), jobs),
+        _ => told(Ok(Said::Done), Jobs::new_empty()),
     }
 }
 
-fn changed(changed: Changed) -> [u64; 38] {
-    let answer = changed.answer;
-    let left = changed.jobs;
-    image::answer(said::of_answer(answer), left)
+fn changed(changed: Changed<JobRefusal, Jobs>) -> [u64; 38] {
+    image::answer(changed.answer.map(Said::from), changed.map)
+}
+
+// What a question is answered, which only the maps below can refuse.
+fn told(said: Result<Said, Refusal>, jobs: Jobs) -> [u64; 38] {
+    image::answer(said.map_err(JobRefusal::Map), jobs)
 }

@@ -1,69 +1,59 @@
-// What was said, as an answer's kind and number.
-use answers::{Number, Truth};
-use jobs::{JobAnswer, State};
+// What an accepted call says. A refusal has kind 0 and its number. `compared_calls` has the same without what a slot is, of
+// which it knows nothing: a library for both would need contracts and laws of its own, to serve two comparisons.
+use answers::Reply;
+use jobs::{JobRefusal, State};
 
-#[derive(Drop)]
-pub struct Said {
-    pub kind: u64,
-    pub number: u64,
+#[derive(Clone, Copy)]
+pub enum Said {
+    Done,
+    Number(u64),
+    Truth(bool),
+    Slot(State),
 }
 
-pub(crate) fn done() -> Said {
-    Said { kind: 1, number: 0 }
-}
-
-pub(crate) fn number(n: usize) -> Said {
-    Said {
-        kind: 2,
-        number: n as u64,
+impl From<Reply> for Said {
+    fn from(reply: Reply) -> Said {
+        match reply {
+            Reply::At(start) => Said::from(start),
+            Reply::Done => Said::Done,
+        }
     }
 }
 
-pub(crate) fn of_answer(answer: JobAnswer) -> Said {
-    match answer {
-        JobAnswer::At(start) => number(start),
-        JobAnswer::Done => done(),
-        JobAnswer::Refused(why) => refused(why.number()),
+impl From<u64> for Said {
+    fn from(n: u64) -> Said {
+        Said::Number(n)
     }
 }
 
-pub(crate) fn of_state(answer: State) -> Said {
-    match answer {
-        State::Free => state(0),
-        State::Running => state(1),
-        State::Reaped => state(2),
-        State::Refused(why) => refused(why.number()),
+impl From<usize> for Said {
+    fn from(n: usize) -> Said {
+        Said::Number(n as u64)
     }
 }
 
-pub(crate) fn of_truth(answer: Truth) -> Said {
-    match answer {
-        Truth::Is(yes) => truth(yes),
-        Truth::Refused(why) => refused(why.number()),
+impl From<bool> for Said {
+    fn from(yes: bool) -> Said {
+        Said::Truth(yes)
     }
 }
 
-pub(crate) fn of_number(answer: Number) -> Said {
-    match answer {
-        Number::Is(n) => Said { kind: 2, number: n },
-        Number::Refused(why) => refused(why.number()),
+impl From<State> for Said {
+    fn from(state: State) -> Said {
+        Said::Slot(state)
     }
 }
 
-fn refused(number: u8) -> Said {
-    Said {
-        kind: 0,
-        number: number as u64,
+// An answer's kind and number.
+pub(crate) fn kind_and_number(said: Result<Said, JobRefusal>) -> (u64, u64) {
+    match said {
+        Err(why) => (0, u64::from(why.number())),
+        Ok(Said::Done) => (1, 0),
+        Ok(Said::Number(n)) => (2, n),
+        Ok(Said::Truth(false)) => (3, 0),
+        Ok(Said::Truth(true)) => (4, 0),
+        Ok(Said::Slot(State::Free)) => (5, 0),
+        Ok(Said::Slot(State::Running)) => (5, 1),
+        Ok(Said::Slot(State::Reaped)) => (5, 2),
     }
-}
-
-fn truth(yes: bool) -> Said {
-    Said {
-        kind: if yes { 4 } else { 3 },
-        number: 0,
-    }
-}
-
-fn state(number: u64) -> Said {
-    Said { kind: 5, number }
 }

@@ -5,7 +5,7 @@ use Rattle.answers.specs.Said.{Said, value, refused}
 use Rattle.answers.specs.declared.Run.{Run}
 use Rattle.bits.specs.Range.{count_most}
 use Rattle.texts.specs.Decimal.{decimal, decimal_short}
-use Rattle.texts.specs.Texts.{end, joined, joined_more}
+use Rattle.texts.specs.Texts.{joined, joined_more}
 use Rattle.slots.specs.Sets.{Slots}
 use Rattle.slots.specs.Calls.{says}
 use Rattle.slots.specs.Runs.{end_of, Listed}

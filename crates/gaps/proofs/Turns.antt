@@ -2,18 +2,20 @@
 use mathlib.Core.Path.{◌≡◌, refl, sym, ap, ap₂, ◌∙◌}
 use mathlib.Core.Bool.{Bool, false, not}
 use mathlib.Core.List.{List, [], ◌∷◌, ◌++◌, append_assoc, append-nil}
-use Prim.Native.Nat.{ℕ, ◌+◌, ◌-◌, ◌*◌, ◌≤◌, ◌<◌}
+use Prim.Native.Nat.{ℕ, ◌+◌, ◌-◌, ◌*◌, ◌≤◌, ◌<◌, min}
+use lib.Dec.{ltb}
+use borrow.Author.Tests.{ltb-true, ltb-false, lt-ltb}
 use native.Mathlib.Nat.{min-eq_left, zero-add}
 use native.Mathlib.Omega.{arith}
 use lib.ListN.{length, set, length-append}
 use Rattle.answers.specs.Answers.{run}
 use Rattle.answers.specs.declared.Run.{Run}
-use Rattle.bits.specs.Range.{least, least_is, least_none, least_from, least_passes, least_first}
+use Rattle.bits.specs.Range.{either, least, least_to, least_is, least_none, least_from, least_passes, least_first}
 use Rattle.bits.specs.Buffers.{put_at, put_length, put_put, put_two}
 use Rattle.slots.specs.Sets.{Slots}
 use Rattle.slots.specs.Lowest.{free_from}
-use Rattle.slots.specs.Runs.{end_of, runs_from, runs_done, next_run, next_listed, next_absent, next_ends, first_best}
-use Rattle.slots.specs.Gaps.{having, runs_of, longer, longest_of, flat, flat_long}
+use Rattle.slots.specs.Runs.{end_of, runs_from, next_run, next_listed, next_absent, next_ends, first_best, best_on, best_stays}
+use Rattle.slots.specs.Gaps.{having, having_not, runs_of, longer, longest_of, flat, flat_long}
 use Rattle.gaps.specs.Demands.{most_runs}
 
 -- ---- the first free slot of a tree
@@ -26,46 +28,85 @@ module _ (S : Slots) (from : ℕ) (inside : from ≤ 1024) where
   unfolding free_from
   far_is = ap (λ (s : ℕ). least test s (16384 - from)) (min-eq_left (omega arith))
 
-  pub near_none : 1024 ≤ free_from 14 S from → 1024 ≡ least test from (1024 - from)
+  near_none : 1024 ≤ free_from 14 S from → 1024 ≡ least test from (1024 - from)
   near_none l =
       let high : 1024 ≤ least test from (16384 - from) = rw (sym far_is) l in
       sym (least_none test from (1024 - from) (λ i f b. least_first test from (16384 - from) i f (omega arith)) ∙ omega arith)
 
-  pub near_found : free_from 14 S from < 1024 → free_from 14 S from ≡ least test from (1024 - from)
+  near_found : free_from 14 S from < 1024 → free_from 14 S from ≡ least test from (1024 - from)
   near_found l =
       let low : least test from (16384 - from) < 1024 = rw (sym far_is) l in
       far_is ∙ sym (least_is test from (1024 - from) (least test from (16384 - from)) (least_from test from (16384 - from)) (omega arith)
       (least_passes test from (16384 - from) (omega arith)) (λ i f b. least_first test from (16384 - from) i f b))
+
+  pub near_free : (far : ℕ) → far ≡ free_from 14 S from → (r : ℕ) → r ≡ min far 1024 → r ≡ least test from (1024 - from)
+  near_free far is r least_of =
+      either (ltb far 1024)
+      (λ t. let low = ltb-true far 1024 t in least_of ∙ min-eq_left (omega arith) ∙ is ∙ near_found (rw (sym is) low))
+      (λ t. let high = ltb-false far 1024 t in omega (arith, least_of) ∙ near_none (rw (sym is) high))
+
+-- ---- the next run, by the two searches
+
+module _ (S : Slots) (v : Bool) (from : ℕ) where
+  pub begins_near : from ≤ 1024 → (start : ℕ) → start ≡ least (having v S) from (1024 - from) → start ≤ 1024
+  begins_near inside start begins = omega (arith, begins, least_to (having v S) from (1024 - from))
+
+  -- it ends no sooner than it begins
+  pub run_between : (start : ℕ) → start ≡ least (having v S) from (1024 - from) → (end : ℕ) → end ≡ least (having (not v) S) start (1024 - start)
+      → (start ≤ end) × (run start (end - start) ≡ next_run (having v S) 1024 from)
+  unfolding next_run
+  run_between start begins end ends =
+      let stops : end ≡ least (λ i. not (having v S i)) start (1024 - start) = ends ∙ ap (λ (test : ℕ → Bool). least test start (1024 - start)) (having_not v S) in (
+        omega (arith, ends, least_from (having (not v) S) start (1024 - start)),
+        ap (λ (e : ℕ). run start (e - start)) stops ∙ ap (λ (o : ℕ). run o (least (λ i. not (having v S i)) o (1024 - o) - o)) begins,
+      )
 
 -- ---- the longest so far
 
 -- what the runs that are left make of it is the longest of all
 pub record Comparing (S : Slots) (best : Run) (from : ℕ) : Type 0 where
   pub inside : from ≤ 1024
+  pub some : 0 < best.length
   pub so_far : first_best longer best (runs_from (having false S) 1024 from) ≡ longest_of 10 false S
 
-pub comparing_first : (S : Slots) → Comparing S (run 0 0) 0
-unfolding longest_of runs_of
-comparing_first S = record { inside = omega arith; so_far = refl }
+module _ (S : Slots) where
+  abbrev first : Run
+  first = next_run (having false S) 1024 0
+
+  -- the first run beats none, and where there is no run none is the longest
+  pub comparing_first : 0 < first.length → Comparing S first (end_of first)
+  unfolding longest_of runs_of
+  comparing_first some = record {
+    inside = next_ends (having false S) 1024 0 (omega arith);
+    some = some;
+    so_far = sym (ap (first_best longer (run 0 0)) (next_listed (having false S) 1024 0 (omega arith) some)
+        ∙ best_on longer (run 0 0) first (runs_from (having false S) 1024 (end_of first)) (lt-ltb 0 first.length some));
+  }
+
+  pub comparing_empty : first.length ≡ 0 → (longest_of 10 false S).length ≡ 0
+  unfolding longest_of runs_of first_best
+  comparing_empty none = ap (λ (rs : List Run). (first_best longer (run 0 0) rs).length) (next_absent (having false S) 1024 0 (omega arith) none)
 
 module _ (S : Slots) (best : Run) (from : ℕ) (known : Comparing S best from) where
   abbrev next : Run
   next = next_run (having false S) 1024 from
 
+  better_some : 0 < next.length → 0 < (first_best longer best (next ∷ [])).length
+  unfolding first_best
+  better_some some =
+      either (longer next best) (λ e. rw (best_on longer best next [] e) some) (λ e. rw (best_stays longer best next [] e) known.some)
+
   pub comparing_on : 0 < next.length → Comparing S (first_best longer best (next ∷ [])) (end_of next)
   unfolding first_best
   comparing_on some = record {
     inside = next_ends (having false S) 1024 from known.inside;
+    some = better_some some;
     so_far = sym (ap (first_best longer best) (next_listed (having false S) 1024 from known.inside some)) ∙ known.so_far;
   }
 
   pub comparing_none : next.length ≡ 0 → best ≡ longest_of 10 false S
   unfolding first_best
   comparing_none none = sym (ap (first_best longer best) (next_absent (having false S) 1024 from known.inside none)) ∙ known.so_far
-
-  pub comparing_past : 1024 ≤ from → best ≡ longest_of 10 false S
-  unfolding first_best
-  comparing_past past = sym (ap (first_best longer best) (runs_done (having false S) 1024 from (λ i l b. absurd (omega arith)))) ∙ known.so_far
 
 -- ---- the list so far
 
@@ -134,6 +175,3 @@ module _ (S : Slots) (v : Bool) (before : List ℕ) (long : 1024 ≤ length befo
 
     pub listing_none : found.length ≡ 0 → ◌≡◌ {A = ℕ × List ℕ} (count, list) (length (runs_of 10 v S), put_at before 0 (flat (runs_of 10 v S)))
     listing_none none = listed_all (next_absent (having v S) 1024 from known.inside none)
-
-    pub listing_past : 1024 ≤ from → ◌≡◌ {A = ℕ × List ℕ} (count, list) (length (runs_of 10 v S), put_at before 0 (flat (runs_of 10 v S)))
-    listing_past past = listed_all (runs_done (having v S) 1024 from (λ i l b. absurd (omega arith)))

@@ -1,15 +1,14 @@
 -- That the lists and the longest run are what is asked of them, of any outcome that the contracts allow: which refusal, what stands in the buffer, and that
 -- there is one outcome. Rests on `Says`.
-use Rattle.std.specs.Prelude.{◌≡◌, ◌↔◌, Bool, true, false, not, List, ◌∷◌, ℕ, ◌*◌, ◌≤◌, ◌<◌, length, get_or}
+use Rattle.std.specs.Prelude.{◌≡◌, ◌↔◌, Bool, true, false, not, List, ◌∷◌, ℕ, ◌*◌, ◌≤◌, ◌<◌, length, get_or, Result}
 use Rattle.std.proofs.Common.{sym, ◌∙◌, arith}
 use Rattle.std.proofs.Math.Path.{ap}
 use Rattle.answers.specs.Said.{value, refused, leaving_says, leaving_refused, leaving_value}
 use Rattle.answers.specs.Faults.{◌if◌, FaultsDecide}
-use Rattle.answers.specs.Answers.{run, number_says, longest_run_says}
-use Rattle.answers.proofs.Answers.{number_says_injective, longest_run_says_injective}
-use Rattle.answers.specs.declared.Number.{Number}
-use Rattle.answers.specs.declared.LongestRun.{LongestRun}
+use Rattle.answers.specs.Answers.{run, answer_says}
+use Rattle.answers.proofs.Answers.{answer_says_injective}
 use Rattle.answers.specs.declared.Run.{Run}
+use Rattle.answers.specs.declared.Refusal.{Refusal}
 use Rattle.slots.specs.Sets.{Slots}
 use Rattle.slots.specs.Runs.{end_of, listed_place}
 use Rattle.slots.specs.Gaps.{has_other, having_other, runs_of, list_call, list_faults, list_refused, run_at, list_at, list_keeps, longest_of, longest_call, longest_faults, longest_refused, Longest, Full, longest_full, WholeRun, listed_exactly, listed_few, alternating, alternating_most}
@@ -29,24 +28,24 @@ most_reached v = alternating_most 10 v
 
 -- ---- the list, of the free runs and of the used ones
 
-module _ (t : Tree) (v : Bool) (before : List ℕ) (r : Number) (after : List ℕ) (says : RunsSays t v before r after) where
-  said : number_says r ≡ answered tree_view t (list_call 10 v (slot_of t) before)
+module _ (t : Tree) (v : Bool) (before : List ℕ) (r : Result ℕ Refusal) (after : List ℕ) (says : RunsSays t v before r after) where
+  said : answer_says r ≡ answered tree_view t (list_call 10 v (slot_of t) before)
   unfolding listed
   said = ap (λ out. out.0) says ∙ leaving_says _ before (answered tree_view t (list_call 10 v (slot_of t) before))
 
   -- refused by 1 exactly where the tree is not sound, and else by 11 exactly where the buffer has fewer than 1,024 numbers
-  pub runs_decided : FaultsDecide (number_says r) (length (runs_of 10 v (slot_of t))) ((1 if (Sound t → ⊥)) ∷ list_faults 10 before)
+  pub runs_decided : FaultsDecide (answer_says r) (length (runs_of 10 v (slot_of t))) ((1 if (Sound t → ⊥)) ∷ list_faults 10 before)
   unfolding list_call
   runs_decided = rw said (answered_decided tree_view t (list_call 10 v (slot_of t) before) (list_faults 10 before) (list_refused 10 v (slot_of t) before))
 
   -- a refusal leaves every number as it was
-  pub refused_keeps : (k : ℕ) → number_says r ≡ refused k → after ≡ before
+  pub refused_keeps : (k : ℕ) → answer_says r ≡ refused k → after ≡ before
   unfolding listed
   refused_keeps k e =
       ap (λ out. out.1) says
       ∙ leaving_refused _ before (answered tree_view t (list_call 10 v (slot_of t) before)) k (sym (ap (λ out. out.0) says) ∙ e)
 
-  module _ (n : ℕ) (accepted : number_says r ≡ value n) where
+  module _ (n : ℕ) (accepted : answer_says r ≡ value n) where
     -- the answer is how many runs there are, 512 at most
     pub counts : (n ≡ length (runs_of 10 v (slot_of t))) × (n ≤ 512)
     counts =
@@ -90,35 +89,35 @@ module _ (t : Tree) (v : Bool) (before : List ℕ) (r : Number) (after : List �
 
 -- ---- the longest free run
 
-pub longest_free_decided : (t : Tree) (r : LongestRun) → LongestFreeSays t r
-    → FaultsDecide (longest_run_says r) (longest_of 10 false (slot_of t)) ((1 if (Sound t → ⊥)) ∷ longest_faults 10 (slot_of t))
+pub longest_free_decided : (t : Tree) (r : Result Run Refusal) → LongestFreeSays t r
+    → FaultsDecide (answer_says r) (longest_of 10 false (slot_of t)) ((1 if (Sound t → ⊥)) ∷ longest_faults 10 (slot_of t))
 unfolding longest_call
 longest_free_decided t r says = rw says (answered_decided tree_view t (longest_call 10 (slot_of t)) (longest_faults 10 (slot_of t)) (longest_refused 10 (slot_of t)))
 
-module _ (t : Tree) (r : LongestRun) (says : LongestFreeSays t r) (sound : Sound t) where
+module _ (t : Tree) (r : Result Run Refusal) (says : LongestFreeSays t r) (sound : Sound t) where
   -- what is answered is the longest, the lowest on a tie
-  pub longest_free_is : (q : Run) → (longest_run_says r ≡ value q) ↔ Longest 10 false (slot_of t) q
+  pub longest_free_is : (q : Run) → (answer_says r ≡ value q) ↔ Longest 10 false (slot_of t) q
   longest_free_is q = rw (says ∙ sound_answers tree_view t (longest_call 10 (slot_of t)) sound) (longest_promise 10 (slot_of t) q)
 
   -- and 7 exactly where the map is full
-  pub longest_free_full : (longest_run_says r ≡ refused 7) ↔ Full 10 (slot_of t)
+  pub longest_free_full : (answer_says r ≡ refused 7) ↔ Full 10 (slot_of t)
   longest_free_full = rw (says ∙ sound_answers tree_view t (longest_call 10 (slot_of t)) sound) (longest_full 10 (slot_of t))
 
 -- ---- any two outcomes that a contract allows coincide
 
-pub runs_one_answer : (t : Tree) (v : Bool) (before : List ℕ) (r q : Number) (after other : List ℕ) → RunsSays t v before r after → RunsSays t v before q other
+pub runs_one_answer : (t : Tree) (v : Bool) (before : List ℕ) (r q : Result ℕ Refusal) (after other : List ℕ) → RunsSays t v before r after → RunsSays t v before q other
     → (r ≡ q) × (after ≡ other)
 runs_one_answer t v before r q after other p o =
     let same = p ∙ sym o in
-    (number_says_injective r q (ap (λ out. out.0) same), ap (λ out. out.1) same)
+    (answer_says_injective r q (ap (λ out. out.0) same), ap (λ out. out.1) same)
 
-pub free_runs_one_answer : (t : Tree) (before : List ℕ) (r q : Number) (after other : List ℕ) → FreeRunsSays t before r after → FreeRunsSays t before q other
+pub free_runs_one_answer : (t : Tree) (before : List ℕ) (r q : Result ℕ Refusal) (after other : List ℕ) → FreeRunsSays t before r after → FreeRunsSays t before q other
     → (r ≡ q) × (after ≡ other)
 free_runs_one_answer t = runs_one_answer t false
 
-pub used_runs_one_answer : (t : Tree) (before : List ℕ) (r q : Number) (after other : List ℕ) → UsedRunsSays t before r after → UsedRunsSays t before q other
+pub used_runs_one_answer : (t : Tree) (before : List ℕ) (r q : Result ℕ Refusal) (after other : List ℕ) → UsedRunsSays t before r after → UsedRunsSays t before q other
     → (r ≡ q) × (after ≡ other)
 used_runs_one_answer t = runs_one_answer t true
 
-pub longest_free_one_answer : (t : Tree) (r q : LongestRun) → LongestFreeSays t r → LongestFreeSays t q → r ≡ q
-longest_free_one_answer t r q p o = longest_run_says_injective r q (p ∙ sym o)
+pub longest_free_one_answer : (t : Tree) (r q : Result Run Refusal) → LongestFreeSays t r → LongestFreeSays t q → r ≡ q
+longest_free_one_answer t r q p o = answer_says_injective r q (p ∙ sym o)

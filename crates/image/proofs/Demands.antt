@@ -1,13 +1,14 @@
 -- What stood in specs/Demands and rests on theorems there: moved, its statements unchanged. Rests on `Demands`.
-use Rattle.std.specs.Prelude.{◌≡◌, ◌↔◌, true, ℕ, zero, suc, T, ℤ, pos, negsuc, neg_ℤ, length}
+use Rattle.std.specs.Prelude.{◌≡◌, ◌↔◌, true, ℕ, zero, suc, T, ℤ, pos, negsuc, neg_ℤ, length, Result}
 use Rattle.std.proofs.Math.Path.{refl, sym, ap}
 use Rattle.std.proofs.Common.{subst, ◌∙◌, ⊎_elim, arith}
 use mathlib.Core.List.{List, [], ◌∷◌, ◌++◌}
 use Rattle.std.proofs.Math.Pow.{are_bytes}
 use Rattle.answers.specs.Said.{Said, value, refused, Check, on_value, leaving, leaving_says, leaving_refused, value≢refused, value_injective, refused_injective}
 use Rattle.answers.specs.Faults.{Fault, ◌if◌, First, NoFault, Rising, Finds, judged_refuses, judged_accepts, finds_not}
-use Rattle.answers.specs.Answers.{Reply, ok, answer_says, number_says}
-use Rattle.answers.specs.declared.Number.{Number}
+use Rattle.answers.specs.Answers.{answer_says, answer_says_by}
+use Rattle.answers.specs.declared.Reply.{Reply}
+use Rattle.answers.specs.declared.Refusal.{Refusal}
 use Rattle.bits.specs.Range.{same_test}
 use Rattle.slots.specs.Sets.{Slots, none}
 use Rattle.slots.specs.Calls.{Call, take_call, free_call}
@@ -15,14 +16,14 @@ use Rattle.slots.specs.Promises.{used_refused}
 use Rattle.slots.proofs.Promises.{take_refused, free_refused}
 use Rattle.slots.specs.View.{changed_refused}
 use Rattle.tree.specs.declared.Tree.{Tree}
-use Rattle.tree.specs.declared.Changed.{Changed}
+use Rattle.answers.specs.declared.Changed.{Changed}
 use Rattle.tree.specs.Layout.{of_slots, slot_of, tree_view, Sound, IsTree, is_tree_means}
 use Rattle.tree.specs.Says as Tree
-use Rattle.image.specs.declared.ImageAnswer.{ImageAnswer}
+use Rattle.image.specs.declared.ImageRefusal.{ImageRefusal}
 use Rattle.image.specs.declared.Reading.{Reading}
 use Rattle.image.specs.Image.{image_of, is_image, held_in, TwoFields, SummaryAgrees, held_sound_means, reads_back}
 use Rattle.image.proofs.Image.{is_image_means, an_image, writes_back}
-use Rattle.image.specs.ImageAnswers.{image_answer_says, numbered, signed}
+use Rattle.image.specs.ImageAnswers.{image_number_of, numbered, signed}
 use Rattle.image.specs.Inner.{left_on}
 use Rattle.image.specs.Says.{written, WriteSays, image_checks, read_of, ReadSays, Asked, take, free, used, on_bytes, call_of, answered_on, told, on_image, TakeTells, FreeTells, UsedTells}
 use Rattle.image.specs.Demands.{both_pass, image_faults, own_faults, write_accepts, write_accepted, read_accepted, faults, a_count, a_change}
@@ -45,9 +46,9 @@ own_found bytes used = (used_refused 10 (slot_of (held_in bytes))).finds
 module _ (bytes : List ℕ) where
   pub read_refuses : (k : ℕ) → ((read_of bytes).0 ≡ refused k) ↔ First k (image_faults bytes)
   unfolding read_of
-  read_refuses k = rw (leaving_says (λ _. held_in bytes) (of_slots none) _) (judged_refuses _ (image_faults bytes) ok k (found_faults bytes [] [] tt))
+  read_refuses k = rw (leaving_says (λ _. held_in bytes) (of_slots none) _) (judged_refuses _ (image_faults bytes) tt k (found_faults bytes [] [] tt))
 
-  pub read_accepts : ((read_of bytes).0 ≡ value ok) ↔ (TwoFields bytes × SummaryAgrees bytes)
+  pub read_accepts : ((read_of bytes).0 ≡ value tt) ↔ (TwoFields bytes × SummaryAgrees bytes)
   unfolding read_of
   read_accepts =
       rw (leaving_says (λ _. held_in bytes) (of_slots none) _) (both_pass (is_image bytes) (tree_view.is_sound (held_in bytes)) (is_image_means bytes) (finds_agreed bytes))
@@ -133,8 +134,8 @@ module _ (bytes : List ℕ) (asked : Asked) where
 
 -- ---- reading what was written gives the map, and writing what was read gives the bytes
 
-module _ (t : Tree) (held : IsTree t) (buffer : List ℕ) (w : ImageAnswer) (after : List ℕ) (wrote : WriteSays t buffer w after) (done : image_answer_says w ≡ value ok) where
-  accepted : (written t buffer).0 ≡ value ok
+module _ (t : Tree) (held : IsTree t) (buffer : List ℕ) (w : Result Unit ImageRefusal) (after : List ℕ) (wrote : WriteSays t buffer w after) (done : answer_says_by image_number_of w ≡ value tt) where
+  accepted : (written t buffer).0 ≡ value tt
   accepted = sym (ap (λ x. x.0) wrote) ∙ done
 
   sound : Sound t
@@ -143,7 +144,7 @@ module _ (t : Tree) (held : IsTree t) (buffer : List ℕ) (w : ImageAnswer) (aft
   the_image : after ≡ image_of t
   the_image = ap (λ x. x.1) wrote ∙ write_accepted t buffer accepted
 
-  pub read_written : (r : Reading) → ReadSays after r → (image_answer_says r.answer ≡ value ok) × (r.map ≡ t)
+  pub read_written : (r : Reading) → ReadSays after r → (answer_says_by image_number_of r.answer ≡ value tt) × (r.map ≡ t)
   read_written r read =
       let same = reads_back t held sound in
       let found = an_image t ((is_tree_means t).0 held).0 in
@@ -152,8 +153,8 @@ module _ (t : Tree) (held : IsTree t) (buffer : List ℕ) (w : ImageAnswer) (aft
       let said = (read_accepts (image_of t)).1 ((is_image_means (image_of t)).0 found, (held_sound_means (image_of t)).0 agrees) in
       (ap (λ x. x.0) whole ∙ said, ap (λ x. x.1) whole ∙ read_accepted (image_of t) said ∙ same)
 
-module _ (bytes : List ℕ) (are : T (are_bytes bytes)) (r : Reading) (read : ReadSays bytes r) (done : image_answer_says r.answer ≡ value ok) where
-  taken_in : (read_of bytes).0 ≡ value ok
+module _ (bytes : List ℕ) (are : T (are_bytes bytes)) (r : Reading) (read : ReadSays bytes r) (done : answer_says_by image_number_of r.answer ≡ value tt) where
+  taken_in : (read_of bytes).0 ≡ value tt
   taken_in = sym (ap (λ x. x.0) read) ∙ done
 
   the_map : r.map ≡ held_in bytes
@@ -165,22 +166,22 @@ module _ (bytes : List ℕ) (are : T (are_bytes bytes)) (r : Reading) (read : Re
   held_sound : Sound (held_in bytes)
   held_sound = (held_sound_means bytes).1 ((read_accepts bytes).0 taken_in).1
 
-  pub written_read : (buffer : List ℕ) → length buffer ≡ 136 → (w : ImageAnswer) (after : List ℕ) → WriteSays r.map buffer w after
-      → (image_answer_says w ≡ value ok) × (after ≡ bytes)
+  pub written_read : (buffer : List ℕ) → length buffer ≡ 136 → (w : Result Unit ImageRefusal) (after : List ℕ) → WriteSays r.map buffer w after
+      → (answer_says_by image_number_of w ≡ value tt) × (after ≡ bytes)
   written_read buffer long w after wrote =
       let said = (write_accepts (held_in bytes) buffer).1 (long, held_sound) in
       let whole = wrote ∙ ap (λ (t : Tree). written t buffer) the_map in
       (ap (λ x. x.0) whole ∙ said, ap (λ x. x.1) whole ∙ write_accepted (held_in bytes) buffer said ∙ writes_back bytes found_image are)
 
 -- so, of an image that is read: the number is what the tree's call says of the map that was read, and the bytes are the image of the map that it leaves
-module _ (bytes : List ℕ) (are : T (are_bytes bytes)) (reading : Reading) (read : ReadSays bytes reading) (done : image_answer_says reading.answer ≡ value ok) where
+module _ (bytes : List ℕ) (are : T (are_bytes bytes)) (reading : Reading) (read : ReadSays bytes reading) (done : answer_says_by image_number_of reading.answer ≡ value tt) where
   is : is_image bytes ≡ true
   is = same_test (is_image bytes) true (λ _. tt) (λ _. found_image bytes are reading read done)
 
   same_map : reading.map ≡ held_in bytes
   same_map = the_map bytes are reading read done
 
-  module _ (c : Call Slots Reply) (q : Changed) (outcome : Tree.Leaves (held_in bytes) c q) where
+  module _ (c : Call Slots Reply) (q : Changed Refusal Tree) (outcome : Tree.Leaves (held_in bytes) c q) where
     -- on a refusal the map is as it was, and so are the bytes
     left_by : (said : Said Reply) → answer_says q.answer ≡ said → (leaving (on_value numbered said) (λ _. image_of q.map) bytes).1 ≡ image_of q.map
     unfolding leaving on_value
@@ -197,17 +198,17 @@ module _ (bytes : List ℕ) (are : T (are_bytes bytes)) (reading : Reading) (rea
           ap (λ x. x.1) whole ∙ left_by (answer_says q.answer) refl,
         )
 
-  pub take_is_the_trees : (n a : ℕ) (r : ℤ) (after : List ℕ) → TakeTells bytes n a r after → (q : Changed) → Tree.TakeSays reading.map n a q
+  pub take_is_the_trees : (n a : ℕ) (r : ℤ) (after : List ℕ) → TakeTells bytes n a r after → (q : Changed Refusal Tree) → Tree.TakeSays reading.map n a q
       → (r ≡ signed (on_value numbered (answer_says q.answer))) × (after ≡ image_of q.map)
   take_is_the_trees n a r after tells q outcome =
       changes (take_call 10 (slot_of (held_in bytes)) n a) q (subst (λ (t : Tree). Tree.TakeSays t n a q) same_map outcome) r after tells
 
-  pub free_is_the_trees : (start n : ℕ) (r : ℤ) (after : List ℕ) → FreeTells bytes start n r after → (q : Changed) → Tree.FreeSays reading.map start n q
+  pub free_is_the_trees : (start n : ℕ) (r : ℤ) (after : List ℕ) → FreeTells bytes start n r after → (q : Changed Refusal Tree) → Tree.FreeSays reading.map start n q
       → (r ≡ signed (on_value numbered (answer_says q.answer))) × (after ≡ image_of q.map)
   free_is_the_trees start n r after tells q outcome =
       changes (free_call 10 (slot_of (held_in bytes)) start n) q (subst (λ (t : Tree). Tree.FreeSays t start n q) same_map outcome) r after tells
 
-  pub used_is_the_trees : (r : ℤ) (after : List ℕ) → UsedTells bytes r after → (q : Number) → Tree.UsedSays reading.map q → (r ≡ signed (number_says q)) × (after ≡ bytes)
+  pub used_is_the_trees : (r : ℤ) (after : List ℕ) → UsedTells bytes r after → (q : Result ℕ Refusal) → Tree.UsedSays reading.map q → (r ≡ signed (answer_says q)) × (after ≡ bytes)
   used_is_the_trees r after tells q outcome =
       let whole = tells ∙ ap told (a_count bytes is q (subst (λ (t : Tree). Tree.UsedSays t q) same_map outcome)) in
       (ap (λ x. x.0) whole, ap (λ x. x.1) whole)

@@ -111,7 +111,7 @@ is_image_means bytes = (split, λ f. subst (λ (all : List ℕ). T (is_image all
 
 module _ (t : Tree) (many : length t.words ≡ 16) where
   pub an_image : T (is_image (image_of t))
-  an_image = rw (image_spelt t many) (found_both (bytes_of 8 t.words) (to_bytes 2 t.summary) (words_long t many) (to_bytes_length 2 t.summary))
+  an_image = rw (image_spelt t many) (found_both (bytes_of 8 t.words) (to_bytes 2 t.stored.summary) (words_long t many) (to_bytes_length 2 t.stored.summary))
 
 module _ (bytes : List ℕ) (found : T (is_image bytes)) (are : T (are_bytes bytes)) where
   parts : TwoFields bytes

@@ -1,4 +1,4 @@
-pub mod Signed
+pub mod Numbers
 pub mod Turns
 pub mod Outcomes
 pub mod Demands

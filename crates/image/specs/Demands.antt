@@ -1,39 +1,39 @@
 -- What this crate owes: its refusals in their order, 16 before all others; that a refused call keeps every byte; that reading what was written gives the map
 -- and writing what was read gives the bytes; that a call for C is the tree's call on the map that the image holds; and one outcome of each contract.
-use Rattle.std.specs.Prelude.{◌≡◌, ◌↔◌, Bool, true, false, ℕ, T, eqb, ℤ, length}
+use Rattle.std.specs.Prelude.{◌≡◌, ◌↔◌, Bool, true, false, ℕ, T, eqb, ℤ, length, Result}
 use Rattle.std.proofs.Math.Path.{refl, sym, ap}
 use Rattle.std.proofs.Common.{◌∙◌}
 use Rattle.std.proofs.Math.Bool.{not}
 use mathlib.Core.List.{List, [], ◌∷◌, ◌++◌}
-use Rattle.std.proofs.Math.Pow.{are_bytes}
 use Rattle.answers.specs.Said.{Said, value, refused, ◌when◌, judged, judged_on_value, on_value, leaving, leaving_says, leaving_refused, leaving_value, leaving_kept, value≢refused}
 use Rattle.answers.specs.Faults.{Fault, ◌if◌, First, Finds, judged_refuses, finds_eq, finds_not}
-use Rattle.answers.specs.Answers.{Reply, ok, number_says}
-use Rattle.answers.specs.declared.Number.{Number}
+use Rattle.answers.specs.Answers.{answer_says}
+use Rattle.answers.proofs.Answers.{answer_says_by_injective}
+use Rattle.answers.specs.declared.Reply.{Reply}
+use Rattle.answers.specs.declared.Refusal.{Refusal}
 use Rattle.slots.specs.Sets.{Slots, none}
 use Rattle.slots.specs.Calls.{Call, used_call}
 use Rattle.slots.specs.Promises.{take_faults, free_faults}
 use Rattle.slots.specs.View.{answered, says_refused, says_accepted}
 use Rattle.tree.specs.declared.Tree.{Tree}
-use Rattle.tree.specs.declared.Changed.{Changed}
-use Rattle.tree.specs.Layout.{of_slots, slot_of, tree_view, Sound, IsTree}
+use Rattle.answers.specs.declared.Changed.{Changed}
+use Rattle.tree.specs.Layout.{of_slots, slot_of, tree_view, Sound}
 use Rattle.tree.specs.Says as Tree
 use Rattle.image.specs.declared.ImageRefusal.{ImageRefusal}
-use Rattle.image.specs.declared.ImageAnswer.{ImageAnswer}
 use Rattle.image.specs.declared.Reading.{Reading}
 use Rattle.image.specs.Image.{image_of, is_image, held_in, TwoFields, SummaryAgrees}
-use Rattle.image.specs.ImageAnswers.{image_answer_says, image_answer_says_injective, numbered}
+use Rattle.image.specs.ImageAnswers.{image_number_of, image_number_injective, numbered}
 use Rattle.image.specs.Inner.{left_on}
 use Rattle.image.specs.Says.{NumberSays, written, WriteSays, read_of, ReadSays, Asked, take, free, used, on_bytes, call_of, answered_on, Tells, TakeTells, FreeTells, UsedTells}
 
 -- ---- when a call is refused
 
 -- two such tests pass exactly where neither fault holds
-pub both_pass : (a b : Bool) {P Q : Type 0} → T a ↔ P → T b ↔ Q → (judged ((16 when not a) ∷ (1 when not b) ∷ []) ok ≡ value ok) ↔ (P × Q)
+pub both_pass : (a b : Bool) {P Q : Type 0} → T a ↔ P → T b ↔ Q → (judged ((16 when not a) ∷ (1 when not b) ∷ []) (tt {0}) ≡ value (tt {0})) ↔ (P × Q)
 unfolding judged
 both_pass true true p q = (λ _. (p.0 tt, q.0 tt), λ _. refl)
-both_pass true false p q = (λ e. absurd (value≢refused ok 1 (sym e)), λ h. absurd (q.1 h.1))
-both_pass false b p q = (λ e. absurd (value≢refused ok 16 (sym e)), λ h. absurd (p.1 h.0))
+both_pass true false p q = (λ e. absurd (value≢refused (tt {0}) 1 (sym e)), λ h. absurd (q.1 h.1))
+both_pass false b p q = (λ e. absurd (value≢refused (tt {0}) 16 (sym e)), λ h. absurd (p.1 h.0))
 
 finds_sound : (t : Tree) → T (not (tree_view.is_sound t)) ↔ (Sound t → ⊥)
 finds_sound t = finds_not (tree_view.is_sound t) (tree_view.finds_sound t)
@@ -58,9 +58,9 @@ module _ (t : Tree) (buffer : List ℕ) where
 
   pub write_refuses : (k : ℕ) → ((written t buffer).0 ≡ refused k) ↔ First k write_faults
   unfolding written
-  write_refuses k = rw (leaving_says (λ _. image_of t) buffer _) (judged_refuses _ write_faults ok k write_found)
+  write_refuses k = rw (leaving_says (λ _. image_of t) buffer _) (judged_refuses _ write_faults tt k write_found)
 
-  pub write_accepts : ((written t buffer).0 ≡ value ok) ↔ ((length buffer ≡ 136) × Sound t)
+  pub write_accepts : ((written t buffer).0 ≡ value tt) ↔ ((length buffer ≡ 136) × Sound t)
   unfolding written
   write_accepts =
       rw (leaving_says (λ _. image_of t) buffer _) (both_pass (eqb (length buffer) 136) (tree_view.is_sound t) (finds_eq (length buffer) 136) (tree_view.finds_sound t))
@@ -70,9 +70,9 @@ module _ (t : Tree) (buffer : List ℕ) where
   unfolding written
   write_refused k = leaving_refused (λ _. image_of t) buffer _ k
 
-  pub write_accepted : (written t buffer).0 ≡ value ok → (written t buffer).1 ≡ image_of t
+  pub write_accepted : (written t buffer).0 ≡ value tt → (written t buffer).1 ≡ image_of t
   unfolding written
-  write_accepted = leaving_value (λ _. image_of t) buffer _ ok
+  write_accepted = leaving_value (λ _. image_of t) buffer _ tt
 
 -- reading
 module _ (bytes : List ℕ) where
@@ -81,9 +81,9 @@ module _ (bytes : List ℕ) where
   unfolding read_of
   read_refused k = leaving_refused (λ _. held_in bytes) (of_slots none) _ k
 
-  pub read_accepted : (read_of bytes).0 ≡ value ok → (read_of bytes).1 ≡ held_in bytes
+  pub read_accepted : (read_of bytes).0 ≡ value tt → (read_of bytes).1 ≡ held_in bytes
   unfolding read_of
-  read_accepted = leaving_value (λ _. held_in bytes) (of_slots none) _ ok
+  read_accepted = leaving_value (λ _. held_in bytes) (of_slots none) _ tt
 
 -- ---- the calls for C
 
@@ -105,15 +105,15 @@ module _ (bytes : List ℕ) where
 
   -- and of an image the tree decides
   module _ (is : is_image bytes ≡ true) where
-    pub a_count : (q : Number) → Tree.UsedSays (held_in bytes) q → answered_on bytes (call_of bytes used) ≡ (number_says q, bytes)
+    pub a_count : (q : Result ℕ Refusal) → Tree.UsedSays (held_in bytes) q → answered_on bytes (call_of bytes used) ≡ (answer_says q, bytes)
     unfolding answered_on answered judged
     a_count q outcome =
         let counted = used_call 10 (slot_of (held_in bytes)) in
         ap (λ (b : Bool). leaving (judged ((16 when not b) ∷ (1 when not (tree_view.is_sound (held_in bytes))) ∷ counted.checks) counted.answer) (λ _. bytes) bytes) is
         ∙ ap (λ (said : Said ℕ). leaving said (λ _. bytes) bytes) (sym outcome)
-        ∙ leaving_kept (number_says q) bytes
+        ∙ leaving_kept (answer_says q) bytes
 
-    by_said : (c : Call Slots Reply) (r : Changed) → Tree.Leaves (held_in bytes) c r → (said : Said Reply) → answered tree_view (held_in bytes) c ≡ said
+    by_said : (c : Call Slots Reply) (r : Changed Refusal Tree) → Tree.Leaves (held_in bytes) c r → (said : Said Reply) → answered tree_view (held_in bytes) c ≡ said
         → leaving (on_value numbered said) (λ _. image_of (of_slots c.after)) bytes ≡ left_on bytes r
     unfolding left_on leaving on_value
     by_said c r outcome (value x) e =
@@ -123,7 +123,7 @@ module _ (bytes : List ℕ) where
         let whole = outcome ∙ says_refused tree_view (held_in bytes) c k e in
         sym (ap (λ out. leaving (on_value numbered out.0) (λ _. image_of out.1) bytes) whole)
 
-    pub a_change : (c : Call Slots Reply) (r : Changed) → Tree.Leaves (held_in bytes) c r → answered_on bytes (on_bytes c) ≡ left_on bytes r
+    pub a_change : (c : Call Slots Reply) (r : Changed Refusal Tree) → Tree.Leaves (held_in bytes) c r → answered_on bytes (on_bytes c) ≡ left_on bytes r
     unfolding answered_on answered judged
     a_change c r outcome =
         let own = (1 when not (tree_view.is_sound (held_in bytes))) ∷ c.checks in
@@ -136,13 +136,13 @@ module _ (bytes : List ℕ) where
 pub number_one_answer : (refusal : ImageRefusal) (r q : ℕ) → NumberSays refusal r → NumberSays refusal q → r ≡ q
 number_one_answer refusal r q p o = p ∙ sym o
 
-pub write_one_answer : (t : Tree) (buffer : List ℕ) (r q : ImageAnswer) (after other : List ℕ) → WriteSays t buffer r after → WriteSays t buffer q other → (r ≡ q) × (after ≡ other)
-write_one_answer t buffer r q after other p o = (image_answer_says_injective r q (ap (λ x. x.0) (p ∙ sym o)), ap (λ x. x.1) (p ∙ sym o))
+pub write_one_answer : (t : Tree) (buffer : List ℕ) (r q : Result Unit ImageRefusal) (after other : List ℕ) → WriteSays t buffer r after → WriteSays t buffer q other → (r ≡ q) × (after ≡ other)
+write_one_answer t buffer r q after other p o = (answer_says_by_injective image_number_of image_number_injective r q (ap (λ x. x.0) (p ∙ sym o)), ap (λ x. x.1) (p ∙ sym o))
 
 pub read_one_answer : (bytes : List ℕ) (r q : Reading) → ReadSays bytes r → ReadSays bytes q → r ≡ q
 read_one_answer bytes r q p o =
     let same = p ∙ sym o in
-    (λ i. record { answer = image_answer_says_injective r.answer q.answer (ap (λ x. x.0) same) i; map = (same i).1 })
+    (λ i. record { answer = answer_says_by_injective image_number_of image_number_injective r.answer q.answer (ap (λ x. x.0) same) i; map = (same i).1 })
 
 pub take_one_answer : (bytes : List ℕ) (n a : ℕ) (r q : ℤ) (after other : List ℕ) → TakeTells bytes n a r after → TakeTells bytes n a q other → (r ≡ q) × (after ≡ other)
 take_one_answer bytes n a = tells_one_answer bytes (take n a)

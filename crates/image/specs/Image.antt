@@ -21,7 +21,7 @@ field tag body = tag ∷ (to_bytes 2 (length body) ++ body)
 
 -- the words, and then the summary
 unfoldable pub image_of : Tree → List ℕ
-image_of t = field 32 (bytes_of 8 t.words) ++ field 33 (to_bytes 2 t.summary)
+image_of t = field 32 (bytes_of 8 t.words) ++ field 33 (to_bytes 2 t.stored.summary)
 
 -- ---- reading
 
@@ -90,19 +90,19 @@ module _ (t : Tree) (many : length t.words ≡ 16) where
   pub words_long : length (bytes_of 8 t.words) ≡ 128
   words_long = bytes_of_length 8 t.words ∙ ap (λ (m : ℕ). m * 8) many
 
-  pub image_spelt : image_of t ≡ fields (bytes_of 8 t.words) (to_bytes 2 t.summary)
+  pub image_spelt : image_of t ≡ fields (bytes_of 8 t.words) (to_bytes 2 t.stored.summary)
   unfolding image_of
-  image_spelt = spelt (bytes_of 8 t.words) (to_bytes 2 t.summary) words_long (to_bytes_length 2 t.summary)
+  image_spelt = spelt (bytes_of 8 t.words) (to_bytes 2 t.stored.summary) words_long (to_bytes_length 2 t.stored.summary)
 
   pub image_length : length (image_of t) ≡ 136
-  image_length = ap length image_spelt ∙ long (bytes_of 8 t.words) (to_bytes 2 t.summary) words_long (to_bytes_length 2 t.summary)
+  image_length = ap length image_spelt ∙ long (bytes_of 8 t.words) (to_bytes 2 t.stored.summary) words_long (to_bytes_length 2 t.stored.summary)
 
 pub image_bytes : (t : Tree) → T (are_bytes (image_of t))
 unfolding image_of
 image_bytes t =
-    bytes_append (field 32 (bytes_of 8 t.words)) (field 33 (to_bytes 2 t.summary))
+    bytes_append (field 32 (bytes_of 8 t.words)) (field 33 (to_bytes 2 t.stored.summary))
     (bytes_append (to_bytes 2 (length (bytes_of 8 t.words))) (bytes_of 8 t.words) (to_bytes_bytes 2 (length (bytes_of 8 t.words))) (bytes_of_bytes 8 t.words))
-    (bytes_append (to_bytes 2 (length (to_bytes 2 t.summary))) (to_bytes 2 t.summary) (to_bytes_bytes 2 (length (to_bytes 2 t.summary))) (to_bytes_bytes 2 t.summary))
+    (bytes_append (to_bytes 2 (length (to_bytes 2 t.stored.summary))) (to_bytes 2 t.stored.summary) (to_bytes_bytes 2 (length (to_bytes 2 t.stored.summary))) (to_bytes_bytes 2 t.stored.summary))
 
 -- the image of a tree holds its words and its summary
 module _ (t : Tree) (held : IsTree t) where
@@ -112,14 +112,14 @@ module _ (t : Tree) (held : IsTree t) where
   pub holds_words : words_in (image_of t) ≡ t.words
   holds_words =
       ap (λ (bytes : List ℕ). numbers_of 8 16 (drop 3 bytes)) (image_spelt t many)
-      ∙ ap (λ (m : ℕ). numbers_of 8 m (bytes_of 8 t.words ++ (33 ∷ (2 ∷ (0 ∷ to_bytes 2 t.summary))))) (sym many)
+      ∙ ap (λ (m : ℕ). numbers_of 8 m (bytes_of 8 t.words ++ (33 ∷ (2 ∷ (0 ∷ to_bytes 2 t.stored.summary))))) (sym many)
       ∙ read_written 8 t.words _ (λ i l. ((is_tree_means t).0 held).1 i (rw many at l))
 
-  pub holds_summary : summary_in (image_of t) ≡ t.summary
+  pub holds_summary : summary_in (image_of t) ≡ t.stored.summary
   holds_summary =
       ap (λ (bytes : List ℕ). number_in 2 bytes 134) (image_spelt t many)
-      ∙ ap from_bytes (last_two (bytes_of 8 t.words) (to_bytes 2 t.summary) (words_long t many) (to_bytes_length 2 t.summary))
-      ∙ from_to 2 t.summary ((is_tree_means t).0 held).2
+      ∙ ap from_bytes (last_two (bytes_of 8 t.words) (to_bytes 2 t.stored.summary) (words_long t many) (to_bytes_length 2 t.stored.summary))
+      ∙ from_to 2 t.stored.summary ((is_tree_means t).0 held).2
 
   -- reading what was written gives the map: a sound one's other fields are those that its words give
   pub reads_back : Sound t → held_in (image_of t) ≡ t
@@ -127,7 +127,7 @@ module _ (t : Tree) (held : IsTree t) where
   reads_back sound =
       let agrees = (sound_by_stored t ((is_tree_means t).0 held).2 ((is_tree_means t).0 held).3).0 sound in
       (λ i. tree_of (holds_words i) (stored_of (holds_summary i) (full_of (holds_words i)) (count_of (holds_words i))))
-      ∙ ap (λ (s : _). tree_of t.words (stored_of t.summary s.full s.count)) (sym agrees)
+      ∙ ap (λ (s : _). tree_of t.words (stored_of t.stored.summary s.full s.count)) (sym agrees)
 
 -- the summary is not at odds with the words: its bit i is 1 exactly if word i is not 0
 abbrev pub SummaryAgrees : List ℕ → Type 0

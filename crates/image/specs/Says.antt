@@ -1,17 +1,17 @@
 -- The contract of each call: of write and read the image and the map, of the calls for C the signed number and every byte at the end. Rests on `Image` and on
 -- the calls of `slots`.
-use Rattle.std.specs.Prelude.{◌≡◌, not, List, [], ◌∷◌, ◌++◌, ℕ, eqb, ℤ, length}
+use Rattle.std.specs.Prelude.{◌≡◌, not, List, [], ◌∷◌, ◌++◌, ℕ, eqb, ℤ, length, Result}
 use Rattle.answers.specs.Said.{Said, Check, ◌when◌, judged, leaving}
-use Rattle.answers.specs.Answers.{Reply, ok}
+use Rattle.answers.specs.Answers.{answer_says_by}
+use Rattle.answers.specs.declared.Reply.{Reply}
 use Rattle.slots.specs.Sets.{Slots, none}
 use Rattle.slots.specs.Calls.{Call, take_call, free_call, used_call}
 use Rattle.tree.specs.declared.Tree.{Tree}
 use Rattle.tree.specs.Layout.{slot_of, of_slots, tree_view}
 use Rattle.image.specs.declared.ImageRefusal.{ImageRefusal}
-use Rattle.image.specs.declared.ImageAnswer.{ImageAnswer}
 use Rattle.image.specs.declared.Reading.{Reading}
 use Rattle.image.specs.Image.{image_of, is_image, held_in}
-use Rattle.image.specs.ImageAnswers.{image_number_of, image_answer_says, numbered, signed}
+use Rattle.image.specs.ImageAnswers.{image_number_of, numbered, signed}
 
 abbrev pub NumberSays : ImageRefusal → ℕ → Type 0
 NumberSays refusal r = r ≡ image_number_of refusal
@@ -19,23 +19,23 @@ NumberSays refusal r = r ≡ image_number_of refusal
 -- ---- write and read
 
 -- the image over the whole buffer; 16 where the buffer is not as long as an image, 1 where the map is not sound
-unfoldable pub written : Tree → List ℕ → Said Reply × List ℕ
+unfoldable pub written : Tree → List ℕ → Said Unit × List ℕ
 written t buffer =
-    leaving (judged ((16 when not (eqb (length buffer) 136)) ∷ (1 when not (tree_view.is_sound t)) ∷ []) ok) (λ _. image_of t) buffer
+    leaving (judged ((16 when not (eqb (length buffer) 136)) ∷ (1 when not (tree_view.is_sound t)) ∷ []) tt) (λ _. image_of t) buffer
 
-abbrev pub WriteSays : Tree → List ℕ → ImageAnswer → List ℕ → Type 0
-WriteSays t buffer r after = (image_answer_says r, after) ≡ written t buffer
+abbrev pub WriteSays : Tree → List ℕ → Result Unit ImageRefusal → List ℕ → Type 0
+WriteSays t buffer r after = (answer_says_by image_number_of r, after) ≡ written t buffer
 
 -- what is asked of every image: 16 where the bytes are none, and then 1 where the map that they hold is not sound
 abbrev pub image_checks : List ℕ → List Check
 image_checks bytes = (16 when not (is_image bytes)) ∷ (1 when not (tree_view.is_sound (held_in bytes))) ∷ []
 
 -- the map that the bytes hold, and the empty one where they are refused
-unfoldable pub read_of : List ℕ → Said Reply × Tree
-read_of bytes = leaving (judged (image_checks bytes) ok) (λ _. held_in bytes) (of_slots none)
+unfoldable pub read_of : List ℕ → Said Unit × Tree
+read_of bytes = leaving (judged (image_checks bytes) tt) (λ _. held_in bytes) (of_slots none)
 
 abbrev pub ReadSays : List ℕ → Reading → Type 0
-ReadSays bytes r = (image_answer_says r.answer, r.map) ≡ read_of bytes
+ReadSays bytes r = (answer_says_by image_number_of r.answer, r.map) ≡ read_of bytes
 
 -- ---- the calls for C
 

@@ -6,18 +6,21 @@
 #![tactic(auto)]
 
 mod fields;
-mod numbers;
 
-ghost use Rattle.std.specs.Prelude.{◌≡◌, ◌^◌, pos, neg_ℤ, length};
-ghost use Rattle.answers.specs.Refusals.{number_of};
+ghost use Rattle.std.specs.Prelude.{◌≡◌, pos, neg_ℤ, length};
+ghost use Rattle.answers.specs.declared.Changed.{Changed};
+ghost use Rattle.answers.specs.declared.Refusal.{Refusal};
+ghost use Rattle.tree.specs.declared.Tree.{Tree};
+ghost use Rattle.image.specs.declared.ImageRefusal.TheVariants.{Map};
+ghost use Rattle.image.specs.ImageAnswers.{image_number_of};
 ghost use Rattle.image.specs.Says.{NumberSays, WriteSays, ReadSays, TakeTells, FreeTells, UsedTells};
-ghost use Rattle.image.specs.Inner.{Short, LeftIn, Unread};
+ghost use Rattle.image.specs.Inner.{HeldSays, SoundSays, CountedSays, Short, OnImage, LeftIn};
 
-use answers::{Answer, Number, Refusal};
-use tree::{Changed, Tree};
+use answers::{Changed, Refusal, Reply};
+use tree::Tree;
 
 // Why a call was refused.
-#[derive(Drop)]
+#[derive(Clone, Copy, PartialEq, Eq)]
 pub enum ImageRefusal {
     // 1 to 12: as the maps refuse.
     Map(Refusal),
@@ -26,7 +29,8 @@ pub enum ImageRefusal {
 }
 
 impl ImageRefusal {
-    // The number that the papers give this refusal.
+    // The number that the papers give this refusal. By this name, and no `From`, as `NumberSays` promises it;
+    // and no cast, as one of the cases holds a refusal of the maps.
     pub fn number(self) -> u8
         ensures { NumberSays self result }
     {
@@ -37,17 +41,20 @@ impl ImageRefusal {
     }
 }
 
-// What writing or reading an image comes to.
-#[derive(Drop)]
-pub enum ImageAnswer {
-    Done,
-    Refused(ImageRefusal),
+// A map's refusal is one of this crate, by the same number.
+impl From<Refusal> for ImageRefusal {
+    ghost from_gives = { λ why refusal. refusal ≡ Map why };
+
+    fn from(why: Refusal) -> ImageRefusal {
+        Self::Map(why)
+    }
 }
 
-// What reading comes to, and the map that was read.
-#[derive(Drop)]
+// What reading comes to, and the map that was read. A struct still, as `ReadSays` promises the empty map
+// with a refusal.
+#[derive(Clone, Copy)]
 pub struct Reading {
-    pub answer: ImageAnswer,
+    pub answer: Result<(), ImageRefusal>,
     pub map: Tree,
 }
 
@@ -57,46 +64,55 @@ pub struct Reading {
 
 // Writes the image of the map over all the bytes. Refused: 16 where there are not 136 of them, 1 where
 // the map is not sound. A refusal leaves every byte as it was.
-pub fn write(map: Tree, image: &mut [u8]) -> ImageAnswer
+#[tactic(auto, using(crate::proofs::Outcomes::write_short, crate::proofs::Outcomes::write_unsound))]
+pub fn write(map: Tree, image: &mut [u8]) -> Result<(), ImageRefusal>
     ensures { WriteSays map image.old result image.new }
 {
     if image.len() != fields::LENGTH {
-        return ImageAnswer::Refused(ImageRefusal::NoImage);
+        return Err(ImageRefusal::NoImage);
     }
-    let counted = map.used();
-    if let Number::Refused(why) = counted {
-        return ImageAnswer::Refused(ImageRefusal::Map(why));
-    }
+    map.used()?;
     fields::put(image, map);
-    ImageAnswer::Done
+    Ok(())
 }
 
 // The map that the bytes hold. Refused: 16 where they are no image, 1 where the summary is at odds with
 // the words. With a refusal comes the empty map.
+#[tactic(auto, unfolding(crate::specs::Says::read_of, answers::specs::Said::judged, answers::specs::Said::leaving))]
 pub fn read(image: &[u8]) -> Reading
     ensures { ReadSays image.now result }
 {
-    if !fields::is_image(image) {
-        return unread(ImageRefusal::NoImage);
-    }
-    let map = fields::held(image);
-    let counted = map.used();
-    if let Number::Refused(why) = counted {
-        return unread(ImageRefusal::Map(why));
-    }
-    Reading {
-        answer: ImageAnswer::Done,
-        map,
+    match sound_in(image) {
+        Ok(map) => Reading {
+            answer: Ok(()),
+            map,
+        },
+        Err(why) => Reading {
+            answer: Err(why),
+            map: Tree::new_empty(),
+        },
     }
 }
 
-// The refusal, with the empty map.
-fn unread(why: ImageRefusal) -> Reading
-    ensures { Unread why result }
+// The map that the bytes hold. Refused: 16, then 1.
+#[tactic(auto, using(crate::proofs::Outcomes::judged_none, crate::proofs::Outcomes::judged_unsound))]
+fn sound_in(image: &[u8]) -> Result<Tree, ImageRefusal>
+    ensures { SoundSays image.now result }
 {
-    Reading {
-        answer: ImageAnswer::Refused(why),
-        map: Tree::new_empty(),
+    let found = held_in(image)?;
+    found.used()?;
+    Ok(found)
+}
+
+// The map that the bytes hold, sound or not. Refused: 16.
+#[tactic(auto, using(crate::proofs::Image::image_long), unfolding(crate::specs::Image::is_image, answers::specs::Said::judged))]
+fn held_in(image: &[u8]) -> Result<Tree, ImageRefusal>
+    ensures { HeldSays image.now result }
+{
+    if fields::is_image(image) {
+        Ok(fields::held(image))
+    } else {
+        Err(ImageRefusal::NoImage)
     }
 }
 
@@ -109,11 +125,7 @@ fn unread(why: ImageRefusal) -> Reading
 pub fn slotmap_take(image: &mut [u8], n: usize, a: usize) -> i32
     ensures { TakeTells image.old n a result image.new }
 {
-    if !fields::is_image(image) {
-        return -16;
-    }
-    let taken = fields::held(image).take(n, a);
-    left_in(image, taken)
+    on_image(image, |map| map.take(n, a))
 }
 
 // Frees the n slots from `start` on, each of which must be used, and answers 0. Refused, in this order:
@@ -122,50 +134,60 @@ pub fn slotmap_take(image: &mut [u8], n: usize, a: usize) -> i32
 pub fn slotmap_free(image: &mut [u8], start: usize, n: usize) -> i32
     ensures { FreeTells image.old start n result image.new }
 {
-    if !fields::is_image(image) {
-        return -16;
-    }
-    let freed = fields::held(image).free(start, n);
-    left_in(image, freed)
+    on_image(image, |map| map.free(start, n))
 }
 
 // How many slots are used. Refused, in this order: -16, -1.
 pub fn slotmap_used(image: &[u8]) -> i32
     ensures { UsedTells image.now result image.now }
 {
-    if !fields::is_image(image) {
-        return -16;
+    match counted(image) {
+        Ok(count) => count as i32,
+        Err(why) => negated(why),
     }
-    let counted = fields::held(image).used();
-    match counted {
-        Number::Is(count) => count as i32,
-        Number::Refused(why) => negated(why),
+}
+
+#[tactic(auto, using(crate::proofs::Outcomes::answered_none, crate::proofs::Outcomes::says_count))]
+fn counted(image: &[u8]) -> Result<u64, ImageRefusal>
+    ensures { CountedSays image.now result }
+{
+    let map = held_in(image)?;
+    Ok(map.used()?)
+}
+
+// Carries a change out on the map that the bytes hold, where they are an image. A `match` and no `?`, here and
+// where C asks for the count: it is told one number, whatever comes.
+fn on_image<F: FnOnce(Tree) -> Changed<Refusal, Tree>>(image: &mut [u8], change: F) -> i32
+    requires callable { F.IsAlwaysCallable change }
+    requires short { (map : Tree) (changed : Changed Refusal Tree) → F.post change map changed → Short changed.answer }
+    ensures { OnImage image.old (F.post change) result image.new }
+{
+    match held_in(image) {
+        Ok(map) => left_in(image, change(map)),
+        Err(why) => negated(why),
     }
 }
 
 // Writes the map that a call left, unless the call was refused, and tells its answer.
-fn left_in(image: &mut [u8], changed: Changed) -> i32
+fn left_in(image: &mut [u8], changed: Changed<Refusal, Tree>) -> i32
     requires { (length image.old ≡ 136) × Short changed.answer }
     ensures { LeftIn image.old changed result image.new }
 {
-    let answer = changed.answer;
-    let map = changed.map;
-    match answer {
-        Answer::Refused(why) => negated(why),
-        Answer::At(start) => {
-            fields::put(image, map);
-            start as i32
+    match changed.answer {
+        Ok(reply) => {
+            fields::put(image, changed.map);
+            match reply {
+                Reply::At(start) => start as i32,
+                Reply::Done => 0,
+            }
         }
-        Answer::Done => {
-            fields::put(image, map);
-            0
-        }
+        Err(why) => negated(ImageRefusal::Map(why)),
     }
 }
 
 // The refusal's number, negated.
-fn negated(why: Refusal) -> i32
-    ensures { result ≡ neg_ℤ (pos (number_of why)) }
+fn negated(why: ImageRefusal) -> i32
+    ensures { result ≡ neg_ℤ (pos (image_number_of why)) }
 {
     -(why.number() as i32)
 }

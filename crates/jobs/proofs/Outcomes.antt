@@ -4,22 +4,23 @@ use mathlib.Core.Bool.{Bool, true, false, not, ◌&&◌, false≢true}
 use mathlib.Core.List.{List, [], ◌∷◌}
 use Prim.Native.Nat.{ℕ}
 use native.Mathlib.Omega.{arith}
+use Rattle.std.specs.Prelude.{Result, Ok, Err, is_err}
 use Rattle.answers.specs.Faults.{finds_both}
-use Rattle.answers.specs.Said.{Said, value, refused, ◌when◌, judged, leaving, on_value, judged_on_value, value≢refused, refused_injective}
+use Rattle.answers.specs.Said.{Said, value, refused, ◌when◌, judged, leaving, on_value, judged_on_value}
 use Rattle.answers.specs.Refusals.{number_of}
-use Rattle.answers.specs.Answers.{Reply, at, ok, truth_says, answer_says}
-use Rattle.answers.proofs.Judging.{refused_first, passed_on}
-use Rattle.answers.specs.declared.Answer.{Answer}
-use Rattle.answers.specs.declared.Answer.TheVariants.{Refused as Answer-as-Refused}
+use Rattle.answers.specs.Answers.{answer_says, left_with}
+use Rattle.answers.specs.declared.Changed.{Changed}
+use Rattle.answers.specs.declared.Reply.{Reply}
+use Rattle.answers.specs.declared.Reply.TheVariants.{Done as ok}
 use Rattle.answers.specs.declared.Refusal.{Refusal}
-use Rattle.answers.specs.declared.Truth.{Truth}
-use Rattle.answers.specs.declared.Truth.TheVariants.{Is, Refused as Truth-as-Refused}
-use Rattle.bits.specs.Range.{and_true, and_false, either, same_test}
+use Rattle.answers.specs.declared.Refusal.TheVariants.{Unsound}
+use Rattle.answers.proofs.Judging.{refused_first, passed_on}
+use Rattle.bits.specs.Range.{and_true, and_false, same_test}
 use Rattle.slots.specs.Sets.{Named, all_free, all_used, painted, AllUsed, finds_all_free, finds_all_used}
 use Rattle.slots.specs.Kinds as Kinds
 use Rattle.slots.specs.Calls.{Call, says, take_call, free_call, get_call, empty_call}
 use Rattle.slots.proofs.Promises.{free_promise}
-use Rattle.slots.specs.View.{answered, changed, accepted_sound, found_unsound, found_sound, says_refused, says_accepted, sound_accepted}
+use Rattle.slots.specs.View.{answered, changed, accepted_sound, found_unsound, found_sound, says_refused, says_accepted, changed_says, sound_accepted}
 use Rattle.slots.specs.Jobs.{jobs, running_in, state_by, start_call, reap_call, record_call, state_call, reaped_means}
 use Rattle.slots.proofs.Jobs.{record_passed}
 use Rattle.slots.specs.JobView.{reaped_used}
@@ -29,28 +30,29 @@ use Rattle.views.proofs.Words.{painted_words_lem}
 use Rattle.views.specs.Marks.{sixteen_fit}
 use Rattle.tree.specs.declared.Tree.{Tree}
 use Rattle.tree.specs.Layout.{tree_view, slot_of, of_slots, IsTree}
-use Rattle.jobs.specs.declared.JobAnswer.{JobAnswer}
-use Rattle.jobs.specs.declared.JobAnswer.TheVariants.{At, Done, Refused}
+use Rattle.tree.specs.Says.{TakeSays}
 use Rattle.jobs.specs.declared.JobRefusal.{JobRefusal}
 use Rattle.jobs.specs.declared.Jobs.{Jobs}
 use Rattle.jobs.specs.JobAnswers.{job_number_of, job_answer_says}
 use Rattle.jobs.specs.Inner.{range_call}
-use Rattle.jobs.specs.Layout.{jobs_of, jobs_view, marks_of, of_marks}
+use Rattle.jobs.specs.Layout.{jobs_of, jobs_view, marks_of, used_of, reaped_of, of_marks}
+use Rattle.jobs.specs.Says.{Leaves, StartSays}
 
--- ---- an answer that is no refusal
+-- an answer that is no refusal
+pub not_refused : (answer : Result Reply JobRefusal) → false ≡ is_err answer → (x : Reply) × (job_answer_says answer ≡ value x)
+not_refused (Ok x) e = (x, refl)
+not_refused (Err why) e = absurd (false≢true e)
 
-is_told : (told : Truth) → ((why : Refusal) → told ≡ Truth-as-Refused why → ⊥) → (b : Bool) × (truth_says told ≡ value b)
-is_told (Is b) h = (b, refl)
-is_told (Truth-as-Refused why) h = absurd (h why refl)
+is_told : (told : Result Bool Refusal) → ((why : Refusal) → told ≡ Err why → ⊥) → (b : Bool) × (answer_says told ≡ value b)
+is_told (Ok b) h = (b, refl)
+is_told (Err why) h = absurd (h why refl)
 
-pub not_refused : (answer : JobAnswer) → ((why : JobRefusal) → answer ≡ Refused why → ⊥) → (x : Reply) × (job_answer_says answer ≡ value x)
-not_refused (At n) h = (at n, refl)
-not_refused Done h = (ok, refl)
-not_refused (Refused why) h = absurd (h why refl)
+module _ (j : Jobs) where
+  abbrev tree : Tree
+  tree = j.tree
 
-module _ (tree : Tree) (reaped : List ℕ) where
-  abbrev j : Jobs
-  j = jobs_of tree reaped
+  abbrev reaped : List ℕ
+  reaped = j.reaped
 
   -- ---- check 1
 
@@ -59,21 +61,31 @@ module _ (tree : Tree) (reaped : List ℕ) where
   unfolding answered
   answers_as_tree e call = ap (λ (b : Bool). judged ((1 when not b) ∷ call.checks) call.answer) (sym e)
 
-  -- by the flag of a branch on `!flag`: where a reaped slot is not used the state is not sound, and else it is sound as its tree is
-  module _ (flag : Bool) (told : flag ≡ reaped_used (slot_of tree) (slot_in reaped) 1024) where
-    pub shown_amiss : flag ≡ false → jobs_view.is_sound j ≡ false
-    shown_amiss e = ap (λ (b : Bool). tree_view.is_sound tree && b) (sym told ∙ e) ∙ and_false (tree_view.is_sound tree)
+  -- a tree that says whether it is empty is sound
+  module _ (told : Result Bool Refusal) (says_so : answer_says told ≡ answered tree_view tree (empty_call 10 (slot_of tree)))
+      (right : jobs_view.is_sound j ≡ tree_view.is_sound tree) {X A : Type 0} (call : Call X A) where
+    pub tree_passed : ((why : Refusal) → told ≡ Err why → ⊥) → says call ≡ answered jobs_view j call
+    tree_passed is =
+        let said = is_told told is in
+        sym (found_sound jobs_view j call (right ∙ accepted_sound tree_view tree (empty_call 10 (slot_of tree)) said.0 (sym says_so ∙ said.1)))
 
-    pub shown_kept : flag ≡ true → jobs_view.is_sound j ≡ tree_view.is_sound tree
-    shown_kept e = ap (λ (b : Bool). tree_view.is_sound tree && b) (sym told ∙ e) ∙ and_true (tree_view.is_sound tree)
+  -- where a reaped slot is not used the state is not sound, and else it is sound as its tree is
+  abbrev test : Bool
+  test = reaped_used (used_of j) (reaped_of j) 1024
 
-    -- so a call that only asks is refused with 1, or the tree answers it
-    module _ {X A : Type 0} (call : Call X A) where
-      pub asked_amiss : flag ≡ false → refused 1 ≡ answered jobs_view j call
-      asked_amiss e = sym (found_unsound jobs_view j call (shown_amiss e))
+  shown_amiss : test ≡ false → jobs_view.is_sound j ≡ false
+  shown_amiss e = ap (λ (b : Bool). tree_view.is_sound tree && b) e ∙ and_false (tree_view.is_sound tree)
 
-      pub asked_below : flag ≡ true → answered tree_view tree call ≡ answered jobs_view j call
-      asked_below e = answers_as_tree (shown_kept e) call
+  pub shown_kept : test ≡ true → jobs_view.is_sound j ≡ tree_view.is_sound tree
+  shown_kept e = ap (λ (b : Bool). tree_view.is_sound tree && b) e ∙ and_true (tree_view.is_sound tree)
+
+  -- so a call is refused with 1, or the tree that is kept answers it
+  pub asked_amiss : {X A : Type 0} (call : Call X A) (why : Refusal) → (why ≡ Unsound) × (test ≡ false) → answered jobs_view j call ≡ refused (number_of why)
+  asked_amiss call why none =
+      found_unsound jobs_view j call (shown_amiss none.1) ∙ ap (λ (r : Refusal). refused (number_of r)) (sym none.0)
+
+  pub asked_below : {X A : Type 0} (call : Tree → Call X A) (kept : Tree) → (kept ≡ tree) × (test ≡ true) → answered tree_view kept (call kept) ≡ answered jobs_view j (call tree)
+  asked_below call kept some = ap (λ (t : Tree). answered tree_view t (call t)) some.0 ∙ answers_as_tree (shown_kept some.1) (call tree)
 
   -- ---- start
 
@@ -84,12 +96,21 @@ module _ (tree : Tree) (reaped : List ℕ) where
     started_by (value x) = ap (λ (words : List ℕ). (value x, jobs_of (of_slots (take_call 10 (slot_of tree) n a).after) words)) (same_words 4 sixteen_fit reaped held)
     started_by (refused r) = refl
 
+    -- the tree's take tells the answer
+    pub start_told : jobs_view.is_sound j ≡ tree_view.is_sound tree → (taken : Changed Refusal Tree) → TakeSays tree n a taken
+        → answer_says taken.answer ≡ answered jobs_view j (start_call 10 (marks_of j) n a)
+    unfolding answered start_call
+    start_told e taken outcome =
+        let call = take_call 10 (slot_of tree) n a in
+        ap (λ out. out.0) outcome ∙ changed_says tree_view tree call ∙ answers_as_tree e call
+
     -- the tree's take, with the reaped slots beside it
-    pub started : jobs_view.is_sound j ≡ tree_view.is_sound tree → (said : Said Reply) (left : Tree) → (said, left) ≡ changed tree_view tree (take_call 10 (slot_of tree) n a)
-        → (said, jobs_of left reaped) ≡ changed jobs_view j (start_call 10 (marks_of j) n a)
+    pub started : jobs_view.is_sound j ≡ tree_view.is_sound tree → (taken : Changed Refusal Tree) → TakeSays tree n a taken
+        → (answer : Result Reply JobRefusal) → answer_says taken.answer ≡ job_answer_says answer → StartSays j n a (left_with answer (jobs_of taken.map reaped))
     unfolding changed answered start_call
-    started e said left taken =
-        ap (λ out. (out.0, jobs_of out.1 reaped)) taken
+    started e taken outcome answer told =
+        ap (λ (said : Said Reply). (said, jobs_of taken.map reaped)) (sym told)
+        ∙ ap (λ out. (out.0, jobs_of out.1 reaped)) outcome
         ∙ sym (started_by (answered tree_view tree (take_call 10 (slot_of tree) n a)))
         ∙ ap (λ (x : Said Reply). leaving x (λ _. of_marks (start_call 10 (marks_of j) n a).after) j) (answers_as_tree e (take_call 10 (slot_of tree) n a))
 
@@ -102,25 +123,6 @@ module _ (tree : Tree) (reaped : List ℕ) where
   state_told e slot =
       sym (answers_as_tree e (state_call 10 (marks_of j) slot))
       ∙ sym (judged_on_value (λ (used : Bool). state_by used (slot_in reaped slot)) _ (slot_of tree slot))
-
-  -- ---- the checks that come first
-
-  module _ (told : Truth) (says_so : truth_says told ≡ answered tree_view tree (empty_call 10 (slot_of tree))) where
-    module _ (right : jobs_view.is_sound j ≡ tree_view.is_sound tree) {X A : Type 0} (call : Call X A) where
-      -- a tree that refuses to say whether it is empty is not sound
-      pub tree_refused : (why : Refusal) → told ≡ Truth-as-Refused why → refused (number_of why) ≡ answered jobs_view j call
-      unfolding empty_call says judged
-      tree_refused why e =
-          let said : refused (number_of why) ≡ answered tree_view tree (empty_call 10 (slot_of tree)) = sym (ap truth_says e) ∙ says_so in
-          either (tree_view.is_sound tree)
-          (λ sound. absurd (value≢refused _ _ (sym (found_sound tree_view tree _ sound) ∙ sym said)))
-          (λ unsound. ap refused (refused_injective (said ∙ found_unsound tree_view tree _ unsound)) ∙ sym (found_unsound jobs_view j call (right ∙ unsound)))
-
-      -- and one that says it is
-      pub tree_passed : ((why : Refusal) → told ≡ Truth-as-Refused why → ⊥) → says call ≡ answered jobs_view j call
-      tree_passed is =
-          let said = is_told told is in
-          sym (found_sound jobs_view j call (right ∙ accepted_sound tree_view tree (empty_call 10 (slot_of tree)) said.0 (sym says_so ∙ said.1)))
 
   -- ---- each named slot is running: used in the tree, and not reaped
 
@@ -154,30 +156,28 @@ module _ (tree : Tree) (reaped : List ℕ) where
     none_idle used free told also e f = rw (all_running s n, sym told ∙ e, sym also ∙ f)
 
     -- the checks that come first have been judged, and reap's own or record's decides
-    module _ (range : Answer) (told : answer_says range ≡ answered jobs_view j (range_call s n)) where
-      pub reap_first : (why : Refusal) → range ≡ Answer-as-Refused why → refused (number_of why) ≡ answered jobs_view j (reap_call 10 (marks_of j) s n)
+    module _ (range : Result Reply Refusal) (told : answer_says range ≡ answered jobs_view j (range_call s n)) where
+      pub reap_first : (why : Refusal) → range ≡ Err why → answered jobs_view j (reap_call 10 (marks_of j) s n) ≡ refused (number_of why)
       unfolding answered reap_call
-      reap_first why e = sym (refused_first _ range told _ ok why e)
+      reap_first why e = refused_first _ _ range told _ ok why e
 
-      pub record_first : (why : Refusal) → range ≡ Answer-as-Refused why → refused (number_of why) ≡ answered jobs_view j (record_call 10 (marks_of j) s n)
+      pub record_first : (why : Refusal) → range ≡ Err why → answered jobs_view j (record_call 10 (marks_of j) s n) ≡ refused (number_of why)
       unfolding answered record_call
-      record_first why e = sym (refused_first _ range told _ ok why e)
+      record_first why e = refused_first _ _ range told _ ok why e
 
-      module _ (passed : (why : Refusal) → range ≡ Answer-as-Refused why → ⊥) where
+      module _ (reply : Reply) (passed : range ≡ Ok reply) where
         pub reap_by : answered jobs_view j (reap_call 10 (marks_of j) s n) ≡ judged ((13 when idle) ∷ []) ok
         unfolding answered reap_call
-        reap_by = passed_on _ range told passed _ ok
+        reap_by = passed_on _ _ range told _ ok reply passed
 
         pub record_by : answered jobs_view j (record_call 10 (marks_of j) s n) ≡ judged ((14 when not (all_used (slot_in reaped) s n)) ∷ []) ok
         unfolding answered record_call
-        record_by = passed_on _ range told passed _ ok
+        record_by = passed_on _ _ range told _ ok reply passed
 
-  -- ---- a refused change
+  -- ---- a refused change leaves the very state
 
-  pub handed_back : (judge : JobAnswer) (why : JobRefusal) (call : Call (Kinds.State jobs) Reply) → judge ≡ Refused why → job_answer_says judge ≡ answered jobs_view j call
-      → (job_answer_says judge, j) ≡ changed jobs_view j call
-  handed_back judge why call e told =
-      (λ i. (job_answer_says (e i), j)) ∙ sym (says_refused jobs_view j call (job_number_of why) (sym told ∙ ap job_answer_says e))
+  pub refuses : (call : Call (Kinds.State jobs) Reply) (why : JobRefusal) → refused (job_number_of why) ≡ answered jobs_view j call → Leaves j call (left_with (Err why) j)
+  refuses call why told = sym (says_refused jobs_view j call (job_number_of why) (sym told))
 
   -- ---- an accepted change, carried out
 

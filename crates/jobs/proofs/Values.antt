@@ -27,13 +27,13 @@ module _ (j : Jobs) (good : Is (row the_type) j (vals the_type the_laws j)) wher
   used_fits : (i : ℕ) → Fits w64 (get_or j.tree.words i 0)
   used_fits i = search rules
 
-  summary_fits : Fits w16 j.tree.summary
+  summary_fits : Fits w16 j.tree.stored.summary
   summary_fits = search rules
 
-  full_fits : Fits w16 j.tree.full
+  full_fits : Fits w16 j.tree.stored.full
   full_fits = search rules
 
-  count_fits : Fits w16 j.tree.count
+  count_fits : Fits w16 j.tree.stored.count
   count_fits = search rules
 
   tree_is : IsTree j.tree

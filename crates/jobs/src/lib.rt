@@ -6,21 +6,22 @@
 // is no plain free, claim or set, and no way to the tree inside. Rests on `tree`, `judges` and `rows`.
 #![tactic(auto)]
 
-ghost use Rattle.std.specs.Prelude.{◌≡◌, length};
-ghost use Rattle.answers.specs.Said.{value};
-ghost use Rattle.answers.specs.Answers.{answer_says};
+ghost use Rattle.std.specs.Prelude.{◌≡◌};
+ghost use Rattle.answers.specs.Answers.{left_with};
 ghost use Rattle.slots.specs.Jobs.{state_by};
-ghost use Rattle.jobs.specs.JobAnswers.{job_answer_says, state_says};
-ghost use Rattle.jobs.specs.Inner.{ReapedUsedSays, RangeJudged, ReapJudged, RecordJudged};
+ghost use Rattle.jobs.specs.declared.JobRefusal.TheVariants.{Map};
+ghost use Rattle.jobs.specs.JobAnswers.{slot_state};
+ghost use Rattle.jobs.specs.Layout.{AreJobs};
+ghost use Rattle.jobs.specs.Inner.{ReapedUsedSays, KeptTreeSays, RangeJudged, ReapJudged, RecordJudged};
 ghost use Rattle.jobs.specs.Says.{NumberSays, NewEmptySays, HoldingSays, WordsSays, SummarySays, FullSays, CountSays, ReapedSays, StartSays, ReapSays, RecordSays, StateSays, EmptySays, UsedSays, CapacitySays};
 
-use answers::{Answer, Number, Refusal, Truth};
+use answers::{Changed, Refusal, Reply};
 use judges::Size;
-use rows::SHIFTS;
+use rows::Masks;
 use tree::Tree;
 
 // Why a call was refused.
-#[derive(Drop)]
+#[derive(Clone, Copy, PartialEq, Eq)]
 pub enum JobRefusal {
     // 1 to 12: as the maps below refuse. 1 is also said where a reaped slot is not used.
     Map(Refusal),
@@ -31,7 +32,8 @@ pub enum JobRefusal {
 }
 
 impl JobRefusal {
-    // The number that the papers give this refusal.
+    // The number that the papers give this refusal. By this name, and no `From`, as `NumberSays` promises it;
+    // and no cast, as one of the cases holds a refusal of the maps.
     pub fn number(self) -> u8
         ensures { NumberSays self result }
     {
@@ -43,21 +45,21 @@ impl JobRefusal {
     }
 }
 
-// What a change comes to: the start of the run that was granted, or that it is done, or the refusal.
-#[derive(Drop)]
-pub enum JobAnswer {
-    At(usize),
-    Done,
-    Refused(JobRefusal),
+// A map's refusal is one of this crate, by the same number.
+impl From<Refusal> for JobRefusal {
+    ghost from_gives = { λ why refusal. refusal ≡ Map why };
+
+    fn from(why: Refusal) -> JobRefusal {
+        Self::Map(why)
+    }
 }
 
-// What a slot is, or the refusal.
-#[derive(Drop)]
+// What a slot is.
+#[derive(Clone, Copy, PartialEq, Eq)]
 pub enum State {
     Free,
     Running,
     Reaped,
-    Refused(Refusal),
 }
 
 // The tree has the used slots, which are those that run and those that are reaped. In the words beside
@@ -68,13 +70,7 @@ pub struct Jobs {
     reaped: [u64; 16],
 }
 
-// What a change comes to, and the state it leaves.
-#[derive(Drop)]
-pub struct Changed {
-    pub answer: JobAnswer,
-    pub jobs: Jobs,
-}
-
+#[tactic(auto, using(crate::proofs::Values::are_jobs), unfolding(slots::specs::Calls::capacity))]
 impl Jobs {
     // The state with each slot free.
     pub fn new_empty() -> Jobs
@@ -98,32 +94,28 @@ impl Jobs {
     pub fn words(self) -> [u64; 16]
         ensures { WordsSays self result }
     {
-        let tree = self.tree;
-        tree.words()
+        self.tree.words()
     }
 
     // The tree's summary, of every state. Never refused.
     pub fn summary(self) -> u16
         ensures { SummarySays self result }
     {
-        let tree = self.tree;
-        tree.summary()
+        self.tree.summary()
     }
 
     // The tree's mark of full words, of every state. Never refused.
     pub fn full(self) -> u16
         ensures { FullSays self result }
     {
-        let tree = self.tree;
-        tree.full()
+        self.tree.full()
     }
 
     // The tree's stored count, of every state. Never refused.
     pub fn count(self) -> u16
         ensures { CountSays self result }
     {
-        let tree = self.tree;
-        tree.count()
+        self.tree.count()
     }
 
     // The words of the reaped slots, of every state. Never refused.
@@ -137,110 +129,56 @@ impl Jobs {
     // that start. Refused, the lowest number first: 1 where the state is not sound, 2 where n is 0,
     // 3 where a is 10 or more, 4 where n is above 1,024, 7 where no start fits. A refusal hands back
     // the very state.
-    pub fn start(self, n: usize, a: usize) -> Changed
+    pub fn start(self, n: usize, a: usize) -> Changed<JobRefusal, Jobs>
         ensures { StartSays self n a result }
     {
-        let tree = self.tree;
-        let reaped = self.reaped;
-        if !reaped_used(tree, &reaped) {
-            return Changed {
-                answer: JobAnswer::Refused(JobRefusal::Map(Refusal::Unsound)),
-                jobs: self,
-            };
-        }
-        let taken = tree.take(n, a);
-        let answer = taken.answer;
-        let granted = taken.map;
-        Changed {
-            answer: as_job_answer(answer),
-            jobs: Jobs {
-                tree: granted,
-                reaped,
-            },
-        }
+        let mut map = self;
+        let answer = map.started(n, a);
+        Changed { answer, map }
     }
 
     // Reaps the n slots from `start` on, each of which must be running. Refused: 1 where the state is
     // not sound, 2 where n is 0, 4 where the range does not end within 1,024 slots, 13 where a slot is
     // not running. A refusal hands back the very state.
-    pub fn reap(self, start: usize, n: usize) -> Changed
+    pub fn reap(self, start: usize, n: usize) -> Changed<JobRefusal, Jobs>
         ensures { ReapSays self start n result }
     {
-        let tree = self.tree;
-        let mut reaped = self.reaped;
-        let judged = judged_reap(tree, &reaped, start, n);
-        if let JobAnswer::Refused(_) = judged {
-            return Changed {
-                answer: judged,
-                jobs: self,
-            };
-        }
-        rows::paint(&mut reaped, start, n, true, SHIFTS);
-        Changed {
-            answer: judged,
-            jobs: Jobs { tree, reaped },
-        }
+        let mut map = self;
+        let answer = map.ended(start, n);
+        Changed { answer, map }
     }
 
     // Records the status of the n slots from `start` on, each of which must be reaped, and frees them.
     // Refused: 1 where the state is not sound, 2 where n is 0, 4 where the range does not end within
     // 1,024 slots, 14 where a slot is not reaped. A refusal hands back the very state.
-    pub fn record(self, start: usize, n: usize) -> Changed
+    pub fn record(self, start: usize, n: usize) -> Changed<JobRefusal, Jobs>
         ensures { RecordSays self start n result }
     {
-        let tree = self.tree;
-        let mut reaped = self.reaped;
-        let judged = judged_record(tree, &reaped, start, n);
-        if let JobAnswer::Refused(_) = judged {
-            return Changed {
-                answer: judged,
-                jobs: self,
-            };
-        }
-        let freed = tree.free(start, n);
-        let left = freed.map;
-        rows::paint(&mut reaped, start, n, false, SHIFTS);
-        Changed {
-            answer: judged,
-            jobs: Jobs { tree: left, reaped },
-        }
+        let mut map = self;
+        let answer = map.recorded(start, n);
+        Changed { answer, map }
     }
 
     // What the slot is. Refused: 1 where the state is not sound, 4 where the slot is 1,024 or more.
-    pub fn state(self, slot: usize) -> State
+    pub fn state(self, slot: usize) -> Result<State, Refusal>
         ensures { StateSays self slot result }
     {
-        let tree = self.tree;
-        if !reaped_used(tree, &self.reaped) {
-            return State::Refused(Refusal::Unsound);
-        }
-        let told = tree.get(slot);
-        match told {
-            Truth::Refused(why) => State::Refused(why),
-            Truth::Is(used) => state_by(used, rows::get(&self.reaped, slot)),
-        }
+        let used = self.kept_tree()?.get(slot)?;
+        Ok(state_by(used, rows::get(&self.reaped, slot)))
     }
 
     // Whether each slot is free. Refused: 1 where the state is not sound.
-    pub fn empty(self) -> Truth
+    pub fn empty(self) -> Result<bool, Refusal>
         ensures { EmptySays self result }
     {
-        let tree = self.tree;
-        if !reaped_used(tree, &self.reaped) {
-            return Truth::Refused(Refusal::Unsound);
-        }
-        tree.empty()
+        self.kept_tree()?.empty()
     }
 
     // How many slots are running or reaped. Refused: 1 where the state is not sound.
-    pub fn used(self) -> Number
+    pub fn used(self) -> Result<u64, Refusal>
         ensures { UsedSays self result }
     {
-        let tree = self.tree;
-        if !reaped_used(tree, &self.reaped) {
-            return Number::Refused(Refusal::Unsound);
-        }
-        tree.used()
+        self.kept_tree()?.used()
     }
 
     // How many slots there are, of every state. Never refused.
@@ -249,91 +187,107 @@ impl Jobs {
     {
         judges::capacity(Size::Tree)
     }
-}
 
-// Whether each reaped slot is used, asked word by word.
-fn reaped_used(tree: Tree, reaped: &[u64; 16]) -> bool
-    requires { length reaped.now ≡ 16 }
-    ensures { ReapedUsedSays tree reaped.now result }
-{
-    let words = tree.words();
-    let mut i = 0;
-    while i < 16 {
-        if !places::all_used(words[i], reaped[i]) {
-            return false;
+    // ---- the changes, each in place: a refusal leaves the very state
+    // `AreJobs` is asked, since of a state behind a `&` the check does not know that its numbers fit.
+
+    // Start's, which is the tree's take.
+    fn started(&mut self, n: usize, a: usize) -> Result<Reply, JobRefusal>
+        requires { AreJobs self.old }
+        ensures { StartSays self.old n a (left_with result self.new) }
+    {
+        let kept = self.kept_tree()?;
+        let taken = kept.take(n, a);
+        let reply = taken.answer?;
+        self.tree = taken.map;
+        Ok(reply)
+    }
+
+    // Reap's.
+    fn ended(&mut self, start: usize, n: usize) -> Result<Reply, JobRefusal>
+        requires { AreJobs self.old }
+        ensures { ReapSays self.old start n (left_with result self.new) }
+    {
+        let done = self.judged_reap(start, n)?;
+        rows::paint(&mut self.reaped, start, n, true, Masks::Shifts);
+        Ok(done)
+    }
+
+    // Record's. What is recorded was reaped, so it is used, and the tree frees it.
+    fn recorded(&mut self, start: usize, n: usize) -> Result<Reply, JobRefusal>
+        requires { AreJobs self.old }
+        ensures { RecordSays self.old start n (left_with result self.new) }
+    {
+        let done = self.judged_record(start, n)?;
+        self.tree = self.tree.free(start, n).map;
+        rows::paint(&mut self.reaped, start, n, false, Masks::Shifts);
+        Ok(done)
+    }
+
+    // ---- check 1, in front of the others
+
+    // Whether each reaped slot is used, asked word by word.
+    fn reaped_used(&self) -> bool
+        ensures { ReapedUsedSays self.now result }
+    {
+        let words = self.tree.words();
+        words
+            .iter()
+            .zip(self.reaped.iter())
+            .all(|(word, reaped)| places::all_used(*word, *reaped))
+    }
+
+    // The tree, where each reaped slot is used, and else the refusal: 1. Whether the tree is sound it
+    // says itself.
+    fn kept_tree(&self) -> Result<Tree, Refusal>
+        ensures { KeptTreeSays self.now result }
+    {
+        if !self.reaped_used() {
+            return Err(Refusal::Unsound);
         }
-        i += 1;
+        Ok(self.tree)
     }
-    true
-}
 
-// ---- check 1, in front of the others
+    // Done where the state is sound and the n slots from `start` on are a range of it, and else the
+    // refusal. The tree is asked for its count, which it refuses exactly where it is not sound.
+    fn judged_range(&self, start: usize, n: usize) -> Result<Reply, Refusal>
+        ensures { RangeJudged self.now start n result }
+    {
+        let tree = self.kept_tree()?;
+        tree.used()?;
+        judges::range(Size::Tree, start, n)
+    }
 
-// Done where the state is sound and the n slots from `start` on are a range of it, and else the refusal.
-fn judged_range(tree: Tree, reaped: &[u64; 16], start: usize, n: usize) -> Answer
-    requires { length reaped.now ≡ 16 }
-    ensures { RangeJudged tree reaped.now start n result }
-{
-    if !reaped_used(tree, reaped) {
-        return Answer::Refused(Refusal::Unsound);
+    // Done where reap accepts, and else the refusal.
+    fn judged_reap(&self, start: usize, n: usize) -> Result<Reply, JobRefusal>
+        ensures { ReapJudged self.now start n result }
+    {
+        self.judged_range(start, n)?;
+        let words = self.tree.words();
+        if !rows::all_used(&words, start, n) {
+            return Err(JobRefusal::NotRunning);
+        }
+        if !rows::all_free(&self.reaped, start, n) {
+            return Err(JobRefusal::NotRunning);
+        }
+        Ok(Reply::Done)
     }
-    let told = tree.empty();
-    if let Truth::Refused(why) = told {
-        return Answer::Refused(why);
-    }
-    judges::range(Size::Tree, start, n)
-}
 
-// Done where reap accepts, and else the refusal.
-fn judged_reap(tree: Tree, reaped: &[u64; 16], start: usize, n: usize) -> JobAnswer
-    requires { length reaped.now ≡ 16 }
-    ensures { ReapJudged tree reaped.now start n result }
-{
-    let judged = judged_range(tree, reaped, start, n);
-    if let Answer::Refused(why) = judged {
-        return JobAnswer::Refused(JobRefusal::Map(why));
-    }
-    let words = tree.words();
-    if !rows::all_used(&words, start, n) {
-        return JobAnswer::Refused(JobRefusal::NotRunning);
-    }
-    if !rows::all_free(reaped, start, n) {
-        return JobAnswer::Refused(JobRefusal::NotRunning);
-    }
-    JobAnswer::Done
-}
-
-// Done where record accepts, and else the refusal.
-fn judged_record(tree: Tree, reaped: &[u64; 16], start: usize, n: usize) -> JobAnswer
-    requires { length reaped.now ≡ 16 }
-    ensures { RecordJudged tree reaped.now start n result }
-{
-    let judged = judged_range(tree, reaped, start, n);
-    if let Answer::Refused(why) = judged {
-        return JobAnswer::Refused(JobRefusal::Map(why));
-    }
-    if !rows::all_used(reaped, start, n) {
-        return JobAnswer::Refused(JobRefusal::NotReaped);
-    }
-    JobAnswer::Done
-}
-
-// ---- answers
-
-// The tree's answer as one of this crate.
-fn as_job_answer(answer: Answer) -> JobAnswer
-    ensures { job_answer_says result ≡ answer_says answer }
-{
-    match answer {
-        Answer::At(start) => JobAnswer::At(start),
-        Answer::Done => JobAnswer::Done,
-        Answer::Refused(why) => JobAnswer::Refused(JobRefusal::Map(why)),
+    // Done where record accepts, and else the refusal.
+    fn judged_record(&self, start: usize, n: usize) -> Result<Reply, JobRefusal>
+        ensures { RecordJudged self.now start n result }
+    {
+        self.judged_range(start, n)?;
+        if !rows::all_used(&self.reaped, start, n) {
+            return Err(JobRefusal::NotReaped);
+        }
+        Ok(Reply::Done)
     }
 }
 
 // What a slot with these marks is.
 fn state_by(used: bool, reaped: bool) -> State
-    ensures { state_says result ≡ value (state_by used reaped) }
+    ensures { slot_state result ≡ state_by used reaped }
 {
     if reaped {
         return State::Reaped;

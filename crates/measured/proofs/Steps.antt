@@ -1,9 +1,8 @@
--- A turn of a loop that lists a tree's runs, or asks for its longest: the step is made, and those that are left end where all of them do. Assumes
--- nothing.
+-- The listings of a tree's runs, one after the other: a turn more is a step more. Assumes nothing.
 use mathlib.Core.Path.{◌≡◌, refl, sym, ap, ◌∙◌}
 use mathlib.Core.Bool.{Bool}
 use mathlib.Core.List.{List}
-use Prim.Native.Nat.{ℕ, zero, suc, ◌-◌, ◌≤◌, ◌<◌}
+use Prim.Native.Nat.{ℕ, zero, suc, ◌+◌}
 use native.Mathlib.Omega.{arith}
 use Rattle.answers.specs.Said.{Said}
 use Rattle.answers.specs.declared.Run.{Run}
@@ -14,24 +13,15 @@ use Rattle.tree.specs.Layout.{slot_of, tree_view}
 use Rattle.gaps.specs.Says.{listed}
 use Rattle.measured.specs.Gaps.{repeated, count_of, listing, numbers_of, longest_in}
 
--- from here, the steps that are left end where all of them do
-pub record Ends {A : Type 0} (step : A → A) (times : ℕ) (first : A) (left : ℕ) (a : A) : Type 0 where
-  pub alike : repeated step times first ≡ repeated step left a
+module _ {A : Type 0} (step : A → A) where
+  last_step : (times : ℕ) (a : A) → repeated step (suc times) a ≡ step (repeated step times a)
+  last_step zero a = refl
+  last_step (suc times) a = last_step times (step a)
 
-module _ {A : Type 0} {step : A → A} {times : ℕ} {first : A} where
-  pub begins : Ends step times first times first
-  begins = record { alike = refl }
-
-  pub step_made : (left : ℕ) (a b : A) → 0 < left → Ends step times first left a → b ≡ step a → Ends step times first (left - 1) b
-  step_made zero a b more ends is = absurd (omega (arith, more))
-  step_made (suc left) a b more ends is =
-      let less : suc left - 1 ≡ left = omega arith in
-      rw less (record { alike = ends.alike ∙ ap (repeated step left) (sym is) })
-
-  -- where none is left, this is the end
-  pub none_left : (left : ℕ) (a : A) → left ≤ 0 → Ends step times first left a → a ≡ repeated step times first
-  none_left zero a over ends = sym ends.alike
-  none_left (suc left) a over ends = absurd (omega (arith, over))
+  pub step_made : (times : ℕ) (first a b : A) → a ≡ repeated step times first → b ≡ step a → b ≡ repeated step (times + 1) first
+  step_made times first a b was is =
+      let more : times + 1 ≡ suc times = omega arith in
+      rw more (is ∙ ap step was ∙ sym (last_step times first))
 
 -- ---- what a call answers is a step
 

@@ -7,14 +7,11 @@ use Rattle.views.specs.Painting.{slot_in}
 use Rattle.slots.specs.Kinds.{plain}
 use Rattle.slots.specs.Plain.{Asked, take, free}
 use Rattle.slots.proofs.Plain.{plain_calls}
-use Rattle.slots.specs.Series.{last_of}
+use Rattle.slots.specs.Series.{made, last_of}
 use Rattle.slots.specs.View.{View}
-use Rattle.tree.specs.declared.Tree.{Tree}
 use Rattle.tree.specs.Layout.{holding, tree_view}
-use Rattle.third.specs.declared.Third.{Third}
 use Rattle.third.specs.Layout as Third
 use Rattle.third.specs.Layout.{third_view}
-use Rattle.word.specs.declared.Word.{Word}
 use Rattle.word.specs.Layout.{word_of, word_view}
 
 abbrev pub takes_of : ℕ → ℕ → ℕ → List Asked
@@ -23,6 +20,10 @@ takes_of n a (suc times) = take n a ∷ takes_of n a times
 
 abbrev pub frees_of : List ℕ → ℕ → List Asked
 frees_of starts n = map (λ s. free s n) starts
+
+-- the map that one call leaves
+abbrev pub left_after : (L : View plain) → L.Map → Asked → L.Map
+left_after L m c = (made L (plain_calls L.k) m c).1
 
 -- ---- of any map, with its words
 
@@ -41,9 +42,6 @@ module _ (L : View plain) (words_of : L.Map → List ℕ) where
 
 -- ---- the tree
 
-abbrev pub LeftInSays : Tree → ℕ → List ℕ → Type 0
-LeftInSays m r after = Left tree_view (λ t. t.words) m r after
-
 abbrev pub TakesSays : List ℕ → ℕ → ℕ → ℕ → ℕ → List ℕ → Type 0
 TakesSays words n a times r after = After tree_view (λ t. t.words) (holding words) (takes_of n a times) r after
 
@@ -60,9 +58,6 @@ frees_one_answer words starts n = one_answer tree_view (λ t. t.words) (holding 
 
 -- ---- the third level
 
-abbrev pub LeftInThirdSays : Third → ℕ → List ℕ → Type 0
-LeftInThirdSays m r after = Left third_view (λ t. t.words) m r after
-
 abbrev pub ThirdTakesSays : List ℕ → ℕ → ℕ → ℕ → ℕ → List ℕ → Type 0
 ThirdTakesSays words n a times r after = After third_view (λ t. t.words) (Third.holding words) (takes_of n a times) r after
 
@@ -78,9 +73,6 @@ pub third_frees_one_answer : (words starts : List ℕ) (n r q : ℕ) (after othe
 third_frees_one_answer words starts n = one_answer third_view (λ t. t.words) (Third.holding words) (frees_of starts n)
 
 -- ---- the word, which is lent as a row of one
-
-abbrev pub LeftInWordSays : Word → ℕ → List ℕ → Type 0
-LeftInWordSays m r after = Left word_view (λ w. w.bits ∷ []) m r after
 
 abbrev pub WordTakesSays : List ℕ → ℕ → ℕ → ℕ → ℕ → List ℕ → Type 0
 WordTakesSays words n a times r after = After word_view (λ w. w.bits ∷ []) (word_of (get_or words 0 0)) (takes_of n a times) r after

@@ -1,17 +1,32 @@
 // What the measurement calls from outside: takes and frees one after the other on a map that is lent as
 // its words, a tree by value and in place, the third level and the word by value; and listings of a
-// tree's runs. Thin: a loop over the calls of `tree`, of `in_place`, of `third`, of `word` and of `gaps`.
+// tree's runs. Thin: a fold or a loop over the calls of `tree`, of `in_place`, of `third`, of `word` and of `gaps`.
 #![tactic(auto)]
 
-ghost use Rattle.std.specs.Prelude.{◌≡◌, true, false};
-ghost use Rattle.answers.specs.Answers.{number_says, longest_run_says};
+ghost use Rattle.std.specs.Prelude.{◌≡◌, ◌*◌, ◌≤◌, true, false};
+ghost use Rattle.bits.specs.Range.{count};
+ghost use Rattle.views.specs.Painting.{slot_in};
+ghost use Rattle.answers.specs.Answers.{answer_says};
 ghost use Rattle.measured.specs.Gaps.{ListsSays, LongestSays, count_of, numbers_of};
-ghost use Rattle.measured.specs.Series.{TakesSays, FreesSays, LeftInSays, ThirdTakesSays, ThirdFreesSays, LeftInThirdSays, WordTakesSays, WordFreesSays, LeftInWordSays};
+ghost use Rattle.measured.specs.Series.{TakesSays, FreesSays, ThirdTakesSays, ThirdFreesSays, WordTakesSays, WordFreesSays};
 
-use answers::{LongestRun, Number};
+use answers::{Refusal, Run};
 use third::Third;
 use tree::Tree;
 use word::Word;
+
+// Stores the words that are left, and answers how many slots are used.
+fn left_in<const N: usize>(words: &mut [u64; N], left: [u64; N]) -> usize
+    requires { N ≤ 256 }
+    ensures used { result ≡ count (slot_in left.entry) 0 (N * 64) }
+    ensures words { words.new ≡ left.entry }
+{
+    *words = left;
+    rows::count(&left) as usize
+}
+
+// One function for each map, by value and in place, and for each listing, and no generic one: C calls each by
+// its name, and an export has no type parameter.
 
 // So many takes of n slots at a multiple of 2^a; a take that is refused changes nothing. Answers how
 // many slots are used then. Never refused.
@@ -19,13 +34,8 @@ use word::Word;
 pub extern "C" fn slots_takes(words: &mut [u64; 16], n: usize, a: usize, times: usize) -> usize
     ensures { TakesSays words.old n a times result words.new }
 {
-    let mut map = Tree::holding(*words);
-    let mut left = times;
-    while left > 0 {
-        map = map.take(n, a).map;
-        left -= 1;
-    }
-    left_in(words, map)
+    let map = (0..times).fold(Tree::holding(*words), |tree, _| tree.take(n, a).map);
+    left_in(words, map.words())
 }
 
 // A free of n slots from each of the starts; a free that is refused changes nothing. Answers how many
@@ -34,13 +44,11 @@ pub extern "C" fn slots_takes(words: &mut [u64; 16], n: usize, a: usize, times: 
 pub extern "C" fn slots_frees(words: &mut [u64; 16], starts: &[u64], n: usize) -> usize
     ensures { FreesSays words.old starts.now n result words.new }
 {
-    let mut map = Tree::holding(*words);
-    let mut i = 0;
-    while i < starts.len() {
-        map = map.free(starts[i] as usize, n).map;
-        i += 1;
-    }
-    left_in(words, map)
+    let map = starts.iter().fold(
+        Tree::holding(*words),
+        |tree, start| tree.free(*start as usize, n).map,
+    );
+    left_in(words, map.words())
 }
 
 // The same, by the in-place forms.
@@ -53,35 +61,20 @@ pub extern "C" fn slots_takes_in_place(
 ) -> usize
     ensures { TakesSays words.old n a times result words.new }
 {
-    let mut map = Tree::holding(*words);
-    let mut left = times;
-    while left > 0 {
-        map = in_place::take_in_copy(map, n, a).map;
-        left -= 1;
-    }
-    left_in(words, map)
+    let map = (0..times).fold(Tree::holding(*words), |tree, _| {
+        in_place::take_in_copy(tree, n, a).map
+    });
+    left_in(words, map.words())
 }
 
 #[unsafe(no_mangle)]
 pub extern "C" fn slots_frees_in_place(words: &mut [u64; 16], starts: &[u64], n: usize) -> usize
     ensures { FreesSays words.old starts.now n result words.new }
 {
-    let mut map = Tree::holding(*words);
-    let mut i = 0;
-    while i < starts.len() {
-        map = in_place::free_in_copy(map, starts[i] as usize, n).map;
-        i += 1;
-    }
-    left_in(words, map)
-}
-
-// Stores the map's words, and answers how many slots are used.
-fn left_in(words: &mut [u64; 16], map: Tree) -> usize
-    ensures { LeftInSays map result words.new }
-{
-    let left = map.words();
-    *words = left;
-    rows::count(&left) as usize
+    let map = starts.iter().fold(Tree::holding(*words), |tree, start| {
+        in_place::free_in_copy(tree, *start as usize, n).map
+    });
+    left_in(words, map.words())
 }
 
 // ---- the same at the third level
@@ -90,34 +83,19 @@ fn left_in(words: &mut [u64; 16], map: Tree) -> usize
 pub extern "C" fn third_takes(words: &mut [u64; 256], n: usize, a: usize, times: usize) -> usize
     ensures { ThirdTakesSays words.old n a times result words.new }
 {
-    let mut third = Third::holding(*words);
-    let mut left = times;
-    while left > 0 {
-        third = third.take(n, a).map;
-        left -= 1;
-    }
-    left_in_third(words, third)
+    let map = (0..times).fold(Third::holding(*words), |third, _| third.take(n, a).map);
+    left_in(words, map.words())
 }
 
 #[unsafe(no_mangle)]
 pub extern "C" fn third_frees(words: &mut [u64; 256], starts: &[u64], n: usize) -> usize
     ensures { ThirdFreesSays words.old starts.now n result words.new }
 {
-    let mut third = Third::holding(*words);
-    let mut i = 0;
-    while i < starts.len() {
-        third = third.free(starts[i] as usize, n).map;
-        i += 1;
-    }
-    left_in_third(words, third)
-}
-
-fn left_in_third(words: &mut [u64; 256], third: Third) -> usize
-    ensures { LeftInThirdSays third result words.new }
-{
-    let left = third.words();
-    *words = left;
-    rows::count(&left) as usize
+    let map = starts.iter().fold(
+        Third::holding(*words),
+        |third, start| third.free(*start as usize, n).map,
+    );
+    left_in(words, map.words())
 }
 
 // ---- the same at the word
@@ -126,34 +104,19 @@ fn left_in_third(words: &mut [u64; 256], third: Third) -> usize
 pub extern "C" fn word_takes(words: &mut [u64; 1], n: usize, a: usize, times: usize) -> usize
     ensures { WordTakesSays words.old n a times result words.new }
 {
-    let mut word = Word::holding(words[0]);
-    let mut left = times;
-    while left > 0 {
-        word = word.take(n, a).map;
-        left -= 1;
-    }
-    left_in_word(words, word)
+    let map = (0..times).fold(Word::holding(words[0]), |word, _| word.take(n, a).map);
+    left_in(words, [map.bits()])
 }
 
 #[unsafe(no_mangle)]
 pub extern "C" fn word_frees(words: &mut [u64; 1], starts: &[u64], n: usize) -> usize
     ensures { WordFreesSays words.old starts.now n result words.new }
 {
-    let mut word = Word::holding(words[0]);
-    let mut i = 0;
-    while i < starts.len() {
-        word = word.free(starts[i] as usize, n).map;
-        i += 1;
-    }
-    left_in_word(words, word)
-}
-
-fn left_in_word(words: &mut [u64; 1], word: Word) -> usize
-    ensures { LeftInWordSays word result words.new }
-{
-    let left = [word.bits()];
-    *words = left;
-    rows::count(&left) as usize
+    let map = starts.iter().fold(
+        Word::holding(words[0]),
+        |word, start| word.free(*start as usize, n).map,
+    );
+    left_in(words, [map.bits()])
 }
 
 // ---- the gaps of a tree
@@ -165,14 +128,7 @@ fn left_in_word(words: &mut [u64; 1], word: Word) -> usize
 pub extern "C" fn gaps_free(words: &[u64; 16], list: &mut [u16], times: usize) -> usize
     ensures { ListsSays false words.now list.old times result list.new }
 {
-    let tree = Tree::holding(*words);
-    let mut count = 0;
-    let mut left = times;
-    while left > 0 {
-        count = count_of(gaps::free_runs(tree, list));
-        left -= 1;
-    }
-    count
+    lists(words, false, list, times)
 }
 
 // The same of the used runs.
@@ -180,12 +136,17 @@ pub extern "C" fn gaps_free(words: &[u64; 16], list: &mut [u16], times: usize) -
 pub extern "C" fn gaps_used(words: &[u64; 16], list: &mut [u16], times: usize) -> usize
     ensures { ListsSays true words.now list.old times result list.new }
 {
+    lists(words, true, list, times)
+}
+
+// The listings of the runs of slots whose value is `used`.
+fn lists(words: &[u64; 16], used: bool, list: &mut [u16], times: usize) -> usize
+    ensures { ListsSays used words.now list.old times result list.new }
+{
     let tree = Tree::holding(*words);
     let mut count = 0;
-    let mut left = times;
-    while left > 0 {
-        count = count_of(gaps::used_runs(tree, list));
-        left -= 1;
+    for _ in 0..times {
+        count = count_of(gaps::runs(tree, used, list));
     }
     count
 }
@@ -197,27 +158,22 @@ pub extern "C" fn gaps_longest(words: &[u64; 16], found: &mut [u64; 2], times: u
     ensures { LongestSays words.now found.old times found.new }
 {
     let tree = Tree::holding(*words);
-    let mut left = times;
-    while left > 0 {
+    for _ in 0..times {
         *found = numbers_of(gaps::longest_free(tree));
-        left -= 1;
     }
 }
 
-fn count_of(said: Number) -> usize
-    ensures { result ≡ count_of (number_says said) }
+fn count_of(said: Result<u64, Refusal>) -> usize
+    ensures { result ≡ count_of (answer_says said) }
 {
-    match said {
-        Number::Is(n) => n as usize,
-        Number::Refused(_) => 0,
-    }
+    said.unwrap_or(0) as usize
 }
 
-fn numbers_of(said: LongestRun) -> [u64; 2]
-    ensures { result ≡ numbers_of (longest_run_says said) }
+fn numbers_of(said: Result<Run, Refusal>) -> [u64; 2]
+    ensures { result ≡ numbers_of (answer_says said) }
 {
     match said {
-        LongestRun::Is(run) => [run.start as u64, run.length as u64],
-        LongestRun::Refused(_) => [0, 0],
+        Ok(run) => [run.start as u64, run.length as u64],
+        Err(_) => [0, 0],
     }
 }

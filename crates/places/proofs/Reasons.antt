@@ -3,16 +3,19 @@ use mathlib.Core.Path.{◌≡◌, refl, sym, ap, ap₂, ◌∙◌}
 use mathlib.Core.Logic.{◌↔◌}
 use mathlib.Core.Bool.{Bool, true, false, not, ◌&&◌, ◌||◌}
 use Prim.Native.Nat.{ℕ, ◌+◌, ◌-◌, ◌*◌, ◌/◌, ◌%◌, ◌^◌, ◌≤◌, ◌<◌, zero-le, min}
-use native.Mathlib.Nat.{lt_of_le_of_lt, mod-lt, min-eq_right}
+use native.Mathlib.Nat.{lt_of_le_of_lt, mod-lt, min-eq_left, min-eq_right, sub-eq-zero_of_le}
 use native.Mathlib.Omega.{arith}
 use lib.Bits.{bit_and, bit_or, or_lt, and_le_l, and_comm}
 use lib.Dec.{T, leb, ltb, eqb, eqb→eq, eqb_refl, ltb→lt, lt→ltb}
 use lib.Count.{count_trailing_zeros}
 use lib.Pow.{pow_pos}
-use borrow.Author.Tests.{lt-ltb, leb-true, le-leb, not-true, ltb-true, ltb-false}
+use Rattle.std.proofs.Math.Nat.{pow-le-pow_right}
+use borrow.Author.Tests.{lt-ltb, le-ltb, leb-true, leb-false, le-leb, not-true, ltb-true, ltb-false}
 use Rattle.bits.specs.Range.{and_true, and_false, within, least, least_from, least_to, least_passes, least_first, least_is, least_none, either, same_test, every, finds_every, within_other}
 use Rattle.bits.specs.Digits.{digit, number, zero_digit, down_digit, trailing_least}
-use Rattle.bits.proofs.Digits.{number_is, equal_digits, and_digit, or_digit, complement_digit, shifted_digit, low_mask_digit, run_digit}
+use Rattle.bits.proofs.Digits.{number_is, equal_digits, and_digit, or_digit, complement_digit, shifted_digit, low_mask_digit}
+use Rattle.slots.specs.Sets.{Slots}
+use Rattle.slots.specs.Lowest.{free_from}
 use Rattle.places.specs.Places.{painted_place}
 
 -- ---- masks for a run
@@ -20,9 +23,6 @@ use Rattle.places.specs.Places.{painted_place}
 -- no place of the word is in the run
 pub no_run : (w s n : ℕ) → ((i : ℕ) → i < w → (s ≤ i) × (i < s + n) → ⊥) → 0 ≡ number (within s n) w
 no_run w s n outside = number_is w 0 (within s n) (pow_pos w) (λ i l. zero_digit i ∙ sym (within_other s n i (outside i l)))
-
-pub run_by_shifts : (w s n : ℕ) → n ≤ w → (2 ^ w - 1) / 2 ^ (w - n) * 2 ^ s % 2 ^ w ≡ number (within s n) w
-run_by_shifts w s n h = number_is w _ (within s n) (mod-lt _ (pow_pos w)) (λ i l. run_digit w s n i h l)
 
 pub run_by_table : (w s n : ℕ) → (2 ^ min n w - 1) * 2 ^ s % 2 ^ w ≡ number (within s n) w
 unfolding within
@@ -36,6 +36,17 @@ run_by_table w s n = number_is w _ (within s n) (mod-lt _ (pow_pos w)) (λ i l.
         either (leb s i)
         (λ e. rw (e, within) (same_test _ _ (λ t. omega (arith, leb-true s i e, ltb→lt, lt→ltb)) (λ t. omega (arith, leb-true s i e, ltb→lt, lt→ltb))))
         (λ e. rw (e, within))
+
+-- all ones shifted up leave n zeros below them, whose complement is n ones
+low_ones : (w n : ℕ) → n ≤ w → (2 ^ w - 1) - (2 ^ w - 1) * 2 ^ n % 2 ^ w ≡ 2 ^ n - 1
+low_ones w n h = equal_digits w _ (2 ^ n - 1) (omega (arith, pow_pos w)) (omega (arith, pow_pos w, pow_pos n, pow-le-pow_right {n = 2} (omega arith) h)) (λ i l.
+    complement_digit w _ i (mod-lt _ (pow_pos w)) l
+    ∙ ap not (shifted_digit (2 ^ w - 1) n w i ∙ ap₂ (λ (b c : Bool). b && (leb n i && c)) (lt-ltb i w l) (low_mask_digit w (i - n) ∙ lt-ltb (i - n) w (omega arith)) ∙ and_true (leb n i))
+    ∙ either (leb n i) (λ e. rw e (sym (low_mask_digit n i ∙ le-ltb i n (leb-true n i e))))
+    (λ e. rw e (sym (low_mask_digit n i ∙ lt-ltb i n (leb-false n i e)))))
+
+pub run_by_shifts : (w s n : ℕ) → n ≤ w → number (within s n) w ≡ ((2 ^ w - 1) - (2 ^ w - 1) * 2 ^ n % 2 ^ w) * 2 ^ s % 2 ^ w
+run_by_shifts w s n h = sym (ap (λ (ones : ℕ). ones * 2 ^ s % 2 ^ w) (low_ones w n h) ∙ rw (min-eq_left h) at (run_by_table w s n))
 
 -- a run of w places or more is cut off by the word alone
 pub run_to_the_end : (w s n : ℕ) → w ≤ n → (2 ^ w - 1) * 2 ^ s % 2 ^ w ≡ number (within s n) w
@@ -94,16 +105,21 @@ module _ (w word mask : ℕ) (word_held : word < 2 ^ w) (mask-held : mask < 2 ^ 
       chosen false true = refl
       chosen false false = refl
 
-  pub unmarked : bit_and word ((2 ^ w - 1) - mask) ≡ number (painted_place word mask false) w
+  pub unmarked : number (painted_place word mask false) w ≡ bit_and word ((2 ^ w - 1) - mask)
   unfolding painted_place
-  unmarked = number_is w _ (painted_place word mask false) (lt_of_le_of_lt (and_le_l word _) word_held)
-      (λ i l. and_digit word _ i ∙ ap (λ (b : Bool). digit word i && b) (complement_digit w mask i mask-held l) ∙ chosen (digit word i) (digit mask i))
+  unmarked = sym (number_is w _ (painted_place word mask false) (lt_of_le_of_lt (and_le_l word _) word_held)
+      (λ i l. and_digit word _ i ∙ ap (λ (b : Bool). digit word i && b) (complement_digit w mask i mask-held l) ∙ chosen (digit word i) (digit mask i)))
     where
       chosen : (x m : Bool) → x && not m ≡ elim m as (λ _. Bool) [ true ↦ false | false ↦ x ]
       chosen true true = refl
       chosen true false = refl
       chosen false true = refl
       chosen false false = refl
+
+-- from the word's end on the answer is that end
+pub free_beyond : (S : Slots) (from : ℕ) → 64 ≤ from → 64 ≡ free_from 6 S from
+unfolding free_from least
+free_beyond S from past = rw (min-eq_right past, sub-eq-zero_of_le past)
 
 -- ---- the first free place: trailing zeros of the complement, whose places below s are shifted out
 

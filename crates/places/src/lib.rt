@@ -3,29 +3,25 @@
 // holds a 1 where slot i is used. No function refuses; each answers for every input. Rests on `bits`.
 #![tactic(auto)]
 
-ghost use Rattle.std.specs.Prelude.{◌≡◌};
-ghost use Rattle.std.specs.Int.Count.{count_trailing_zeros};
 ghost use Rattle.places.specs.Places.{RunMaskSays, AllFreeSays, AllUsedSays, MarkSays, UnmarkSays, PaintSays, FirstFreeSays, CountSays};
 
-const ALL: u64 = 0xffff_ffff_ffff_ffff;
-
 // Ones at the n places from `start` on that a word has, built by shifts.
+#[tactic(auto, using(crate::proofs::Reasons::no_run, crate::proofs::Reasons::run_to_the_end, crate::proofs::Reasons::run_by_shifts), unfolding(crate::specs::Places::run_mask))]
 pub fn run_mask(start: usize, n: usize) -> u64
     ensures { RunMaskSays start n result }
 {
     if 64 <= start {
         return 0;
     }
-    if n == 0 {
-        return 0;
-    }
     if 64 <= n {
-        return ALL << start;
+        return u64::MAX << start;
     }
-    (ALL >> (64 - n)) << start
+    !(u64::MAX << n) << start
 }
 
-// The same mask, read from the table of low masks and moved up.
+// The same mask, read from the table of low masks and moved up. Two functions, for the law
+// `run_mask_one_answer` says that the two ways agree.
+#[tactic(auto, using(crate::proofs::Reasons::no_run, crate::proofs::Reasons::run_by_table), unfolding(crate::specs::Places::run_mask, bits::specs::Masks::low_mask))]
 pub fn table_mask(start: usize, n: usize) -> u64
     ensures { RunMaskSays start n result }
 {
@@ -36,13 +32,16 @@ pub fn table_mask(start: usize, n: usize) -> u64
 }
 
 // Whether each place of the mask is free in the word.
+#[tactic(auto, using(crate::proofs::Reasons::free_by_mask), unfolding(crate::specs::Places::free_in))]
 pub fn all_free(word: u64, mask: u64) -> bool
     ensures { AllFreeSays word mask result }
 {
     word & mask == 0
 }
 
-// Whether each place of the mask is used in the word.
+// Whether each place of the mask is used in the word. Not one function with `all_free`: each is one
+// comparison, and a parameter that says which would be a test more.
+#[tactic(auto, using(crate::proofs::Reasons::used_by_mask), unfolding(crate::specs::Places::used_in))]
 pub fn all_used(word: u64, mask: u64) -> bool
     ensures { AllUsedSays word mask result }
 {
@@ -50,6 +49,7 @@ pub fn all_used(word: u64, mask: u64) -> bool
 }
 
 // The word with each place of the mask used, and the others as they are.
+#[tactic(auto, using(crate::proofs::Reasons::marked), unfolding(crate::specs::Places::painted_in))]
 pub fn mark(word: u64, mask: u64) -> u64
     ensures { MarkSays word mask result }
 {
@@ -57,13 +57,15 @@ pub fn mark(word: u64, mask: u64) -> u64
 }
 
 // The word with each place of the mask free, and the others as they are.
+#[tactic(auto, using(crate::proofs::Reasons::unmarked), unfolding(crate::specs::Places::painted_in))]
 pub fn unmark(word: u64, mask: u64) -> u64
     ensures { UnmarkSays word mask result }
 {
     word & !mask
 }
 
-// The word with each place of the mask given the value `used`, and the others as they are.
+// The word with each place of the mask given the value `used`, and the others as they are. The value is
+// handed in, and no function: `PaintSays` is over it.
 pub fn paint(word: u64, mask: u64, used: bool) -> u64
     ensures { PaintSays word mask used result }
 {
@@ -74,25 +76,22 @@ pub fn paint(word: u64, mask: u64, used: bool) -> u64
 }
 
 // The least free place from `from` on, or 64 where there is none: the trailing zeros of the
-// complement, of which the places below `from` are shifted out and back in as zeros.
+// complement, of which the places below `from` are shifted out and back in as zeros. 64 and no
+// `Option`: `FirstFreeSays` promises `free_from`, which answers the end, as the zeros of 0 are counted.
+#[tactic(auto, using(crate::proofs::Reasons::free_beyond, crate::proofs::Reasons::first_by_zeros), unfolding(slots::specs::Lowest::free_from))]
 pub fn first_free(word: u64, from: usize) -> usize
     ensures { FirstFreeSays word from result }
 {
     if 64 <= from {
         return 64;
     }
-    zeros((!word >> from) << from)
-}
-
-fn zeros(x: u64) -> usize
-    ensures { result ≡ count_trailing_zeros 64 x }
-{
-    u64::trailing_zeros(x) as usize
+    ((!word >> from) << from).trailing_zeros() as usize
 }
 
 // How many places are used.
+#[tactic(auto, using(bits::specs::Digits::ones_count))]
 pub fn count(word: u64) -> usize
     ensures { CountSays word result }
 {
-    u64::count_ones(word) as usize
+    word.count_ones() as usize
 }

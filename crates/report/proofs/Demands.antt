@@ -1,10 +1,10 @@
 -- What stood in specs/Demands and rests on theorems there: moved, its statements unchanged. Rests on `Demands`.
-use Rattle.std.specs.Prelude.{◌≡◌, refl, List, ℕ, ◌≤◌, ltb, length}
+use Rattle.std.specs.Prelude.{◌≡◌, refl, List, ℕ, ◌≤◌, ltb, length, Result}
 use Rattle.std.proofs.Math.Path.{sym, ap}
 use Rattle.std.proofs.Common.{◌∙◌, inl, arith, ltb-true, ltb-false}
 use Rattle.answers.specs.Said.{value}
-use Rattle.answers.specs.Answers.{number_says}
-use Rattle.answers.specs.declared.Number.{Number}
+use Rattle.answers.specs.Answers.{answer_says}
+use Rattle.answers.specs.declared.Refusal.{Refusal}
 use Rattle.bits.specs.Range.{either}
 use Rattle.slots.specs.Calls.{used_call}
 use Rattle.slots.specs.Series.{answers_of}
@@ -18,7 +18,7 @@ use Rattle.report.specs.Demands.{run_accepts, said_in, last_in, lines_answer, la
 
 module _ (bytes buffer : List ℕ) where
   -- the report that is said to be there has room in its buffer
-  pub run_fits : (r : Number) (after : List ℕ) → RunSays bytes buffer r after → (n : ℕ) → number_says r ≡ value n → n ≤ 54624
+  pub run_fits : (r : Result ℕ Refusal) (after : List ℕ) → RunSays bytes buffer r after → (n : ℕ) → answer_says r ≡ value n → n ≤ 54624
   run_fits r after says n e =
       let accepted = (run_accepts bytes buffer n).0 (sym (ap (λ x. x.0) says) ∙ e) in
       either (ltb 32768 (length bytes))

@@ -2,7 +2,8 @@
 use Rattle.std.specs.Prelude.{◌≡◌, refl, true, false, List, [], ◌∷◌, ℕ, zero, suc, ◌+◌, ◌-◌, ◌*◌, ◌^◌, ◌≤◌, ◌<◌, ltb, length, take, drop}
 use Rattle.std.proofs.Common.{sym, ap, ◌∙◌, true≢false, zero-mul, arith, length-append, length-drop, ltb-true, ltb-false, eqb-true}
 use Rattle.answers.specs.Said.{Said, value, refused, Check, ◌when◌, judged, value≢refused}
-use Rattle.answers.specs.Answers.{Reply, at, ok}
+use Rattle.answers.specs.declared.Reply.{Reply}
+use Rattle.answers.specs.declared.Reply.TheVariants.{At as at, Done as ok}
 use Rattle.texts.specs.Decimal.{decimal_within, decimal, decimal_short}
 use Rattle.bits.specs.Bytes.{from_bytes}
 use Rattle.bits.specs.Range.{either, count, count_most, count_agree}

@@ -1,14 +1,15 @@
 -- What the runner owes: its refusals, 12 before 11, with every byte of the buffer kept; one outcome; each line the answer of its own call on the map
 -- that the one before left, as a series of demand 3; and so that the record of its accepted calls, walked backward, brings its tree back to the
 -- empty one. Rests on `Report` and on the tree's demands.
-use Rattle.std.specs.Prelude.{◌≡◌, refl, ◌↔◌, List, [], ◌∷◌, ◌++◌, ℕ, ◌+◌, ◌≤◌, ◌<◌, ltb, length, drop}
+use Rattle.std.specs.Prelude.{◌≡◌, refl, ◌↔◌, List, [], ◌∷◌, ◌++◌, ℕ, ◌+◌, ◌≤◌, ◌<◌, ltb, length, drop, Result}
 use Rattle.std.proofs.Math.Path.{sym, ap}
 use Rattle.std.proofs.Common.{subst, ◌∙◌, arith, length-append}
 use Rattle.answers.specs.Said.{Said, value, refused, ◌when◌, leaving_says, leaving_refused, leaving_value}
 use Rattle.answers.specs.Faults.{Fault, ◌if◌, First, NoFault, Finds, judged_refuses, judged_accepts, finds_lt}
-use Rattle.answers.specs.Answers.{Reply, number_says}
-use Rattle.answers.proofs.Answers.{number_says_injective}
-use Rattle.answers.specs.declared.Number.{Number}
+use Rattle.answers.specs.Answers.{answer_says}
+use Rattle.answers.specs.declared.Reply.{Reply}
+use Rattle.answers.proofs.Answers.{answer_says_injective}
+use Rattle.answers.specs.declared.Refusal.{Refusal}
 use Rattle.slots.specs.Sets.{none}
 use Rattle.slots.specs.Calls.{used_call}
 use Rattle.slots.specs.Plain.{Asked, call_of}
@@ -47,28 +48,28 @@ module _ (bytes buffer : List ℕ) where
   unfolding ran
   run_accepted n = leaving_value (λ _. over (report_of bytes) buffer) buffer _ n
 
-  pub run_one_answer : (r q : Number) (after other : List ℕ) → RunSays bytes buffer r after → RunSays bytes buffer q other → (r ≡ q) × (after ≡ other)
-  run_one_answer r q after other p o = (number_says_injective r q (ap (λ x. x.0) (p ∙ sym o)), ap (λ x. x.1) (p ∙ sym o))
+  pub run_one_answer : (r q : Result ℕ Refusal) (after other : List ℕ) → RunSays bytes buffer r after → RunSays bytes buffer q other → (r ≡ q) × (after ≡ other)
+  run_one_answer r q after other p o = (answer_says_injective r q (ap (λ x. x.0) (p ∙ sym o)), ap (λ x. x.1) (p ∙ sym o))
 
   -- with the map: what is said and written is the same, and the map is what the record leaves
-  module _ (r : Number) (map : Tree) (after : List ℕ) (says : RunMapSays bytes buffer r map after) where
+  module _ (r : Result ℕ Refusal) (map : Tree) (after : List ℕ) (says : RunMapSays bytes buffer r map after) where
     pub run_map_runs : RunSays bytes buffer r after
     unfolding ran_map
     run_map_runs i = ((says i).0, (says i).1)
 
-    pub run_map_left : (n : ℕ) → number_says r ≡ value n → map ≡ left_of bytes
+    pub run_map_left : (n : ℕ) → answer_says r ≡ value n → map ≡ left_of bytes
     unfolding ran_map
     run_map_left n e = ap (λ x. x.2) says ∙ leaving_value (λ _. left_of bytes) empty_tree (ran bytes buffer).0 n (leaving_says (λ _. left_of bytes) empty_tree (ran bytes buffer).0 ∙ sym (ap (λ x. x.0) says) ∙ e)
 
-    pub run_map_none : (k : ℕ) → number_says r ≡ refused k → map ≡ empty_tree
+    pub run_map_none : (k : ℕ) → answer_says r ≡ refused k → map ≡ empty_tree
     unfolding ran_map
     run_map_none k e = ap (λ x. x.2) says ∙ leaving_refused (λ _. left_of bytes) empty_tree (ran bytes buffer).0 k (leaving_says (λ _. left_of bytes) empty_tree (ran bytes buffer).0 ∙ sym (ap (λ x. x.0) says) ∙ e)
 
-  pub run_map_one_answer : (r q : Number) (map left : Tree) (after other : List ℕ) → RunMapSays bytes buffer r map after → RunMapSays bytes buffer q left other
+  pub run_map_one_answer : (r q : Result ℕ Refusal) (map left : Tree) (after other : List ℕ) → RunMapSays bytes buffer r map after → RunMapSays bytes buffer q left other
       → (r ≡ q) × (map ≡ left) × (after ≡ other)
   run_map_one_answer r q map left after other p o =
       let same = p ∙ sym o in
-      (number_says_injective r q (ap (λ x. x.0) same), ap (λ x. x.2) same, ap (λ x. x.1) same)
+      (answer_says_injective r q (ap (λ x. x.0) same), ap (λ x. x.2) same, ap (λ x. x.1) same)
 
 -- what the program writes: one outcome, and it always fits
 module _ (bytes : List ℕ) where

@@ -2,7 +2,6 @@
 -- has such a report. A field's line has at most 5 bytes for every 3 whole bytes that the field takes from the record. Rests on `Report`.
 use Rattle.std.specs.Prelude.{◌≡◌, refl, List, [], ◌∷◌, ℕ, zero, suc, ◌+◌, ◌*◌, ◌≤◌, length}
 use Rattle.std.proofs.Common.{arith}
-use Rattle.tree.specs.declared.Tree.{Tree}
 use Rattle.report.specs.Fields.{Field, call, skip, bad, cut}
 
 -- ---- what a field takes from the record

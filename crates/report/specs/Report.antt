@@ -1,11 +1,13 @@
 -- Carrying fields out, and the report: each field's line is the answer of its own call on the map that the one before left, as in the series of
 -- demand 3. It has no limit of length of its own; the runner's limits stand in front, in `ran`. Rests on `Fields`, on the tree's view and on `answers`.
-use Rattle.std.specs.Prelude.{◌≡◌, true, false, List, [], ◌∷◌, ◌++◌, ℕ, ◌≤◌, ◌<◌, ltb, length, drop}
+use Rattle.std.specs.Prelude.{◌≡◌, true, false, List, [], ◌∷◌, ◌++◌, ℕ, ◌≤◌, ◌<◌, ltb, length, drop, Result}
 use Rattle.std.proofs.Common.{ap, ◌∙◌, append-nil}
 use borrow.Author.Tests.{lt-ltb, le-ltb}
 use Rattle.answers.specs.Said.{Said, value, refused, ◌when◌, judged, leaving}
-use Rattle.answers.specs.Answers.{Reply, at, ok, number_says}
-use Rattle.answers.specs.declared.Number.{Number}
+use Rattle.answers.specs.Answers.{answer_says}
+use Rattle.answers.specs.declared.Reply.{Reply}
+use Rattle.answers.specs.declared.Reply.TheVariants.{At as at, Done as ok}
+use Rattle.answers.specs.declared.Refusal.{Refusal}
 use Rattle.texts.specs.Decimal.{decimal}
 use Rattle.texts.specs.Texts.{end}
 use Rattle.slots.specs.Sets.{none}
@@ -151,11 +153,11 @@ module _ (bytes buffer : List ℕ) where
   map_accepted limit room = rw (ran_accepted bytes buffer limit room)
 
 -- the contracts
-abbrev pub RunSays : List ℕ → List ℕ → Number → List ℕ → Type 0
-RunSays bytes before r after = (number_says r, after) ≡ ran bytes before
+abbrev pub RunSays : List ℕ → List ℕ → Result ℕ Refusal → List ℕ → Type 0
+RunSays bytes before r after = (answer_says r, after) ≡ ran bytes before
 
-abbrev pub RunMapSays : List ℕ → List ℕ → Number → Tree → List ℕ → Type 0
-RunMapSays bytes before r map after = (number_says r, after, map) ≡ ran_map bytes before
+abbrev pub RunMapSays : List ℕ → List ℕ → Result ℕ Refusal → Tree → List ℕ → Type 0
+RunMapSays bytes before r map after = (answer_says r, after, map) ≡ ran_map bytes before
 
 -- ---- what the program writes: the report, or for a record that is too long only `big`
 

@@ -1,5 +1,4 @@
 pub mod Powers
 pub mod Multiples
-pub mod Narrow
-pub mod Wide
+pub mod Widths
 pub mod Pages

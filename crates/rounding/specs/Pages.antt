@@ -1,10 +1,10 @@
 -- Pages of 4,096 in the papers' terms: what is answered, the contracts, and what the answers mean. Rests on `Multiples`.
-use Rattle.std.specs.Prelude.{◌≡◌, refl, ◌↔◌, ℕ, ◌+◌, ◌-◌, ◌*◌, ◌/◌, ◌%◌, ◌^◌, ◌≤◌, ◌<◌}
+use Rattle.std.specs.Prelude.{◌≡◌, refl, ◌↔◌, ℕ, ◌+◌, ◌-◌, ◌*◌, ◌/◌, ◌%◌, ◌^◌, ◌≤◌, ◌<◌, Result}
 use Rattle.std.proofs.Common.{sym, ◌∙◌, div-add-mod', arith}
 use Rattle.answers.specs.Said.{Said}
-use Rattle.answers.specs.Answers.{number_says}
-use Rattle.answers.proofs.Answers.{number_says_injective}
-use Rattle.answers.specs.declared.Number.{Number}
+use Rattle.answers.specs.Answers.{answer_says}
+use Rattle.answers.proofs.Answers.{answer_says_injective}
+use Rattle.answers.specs.declared.Refusal.{Refusal}
 use Rattle.rounding.specs.Multiples.{down, up, aligned_up}
 
 -- ---- what is answered
@@ -24,8 +24,8 @@ page_offset x = x % page_size
 
 -- ---- the contracts, each of which leaves one answer
 
-abbrev pub PageAlignUpSays : ℕ → Number → Type 0
-PageAlignUpSays x r = number_says r ≡ page_up x
+abbrev pub PageAlignUpSays : ℕ → Result ℕ Refusal → Type 0
+PageAlignUpSays x r = answer_says r ≡ page_up x
 
 abbrev pub RoundToPagesSays : ℕ → ℕ → Type 0
 RoundToPagesSays x r = r ≡ pages x
@@ -33,8 +33,8 @@ RoundToPagesSays x r = r ≡ pages x
 abbrev pub PageOffsetSays : ℕ → ℕ → Type 0
 PageOffsetSays x r = r ≡ page_offset x
 
-pub page_align_up_one_answer : (x : ℕ) (r s : Number) → PageAlignUpSays x r → PageAlignUpSays x s → r ≡ s
-page_align_up_one_answer x r s p q = number_says_injective r s (p ∙ sym q)
+pub page_align_up_one_answer : (x : ℕ) (r s : Result ℕ Refusal) → PageAlignUpSays x r → PageAlignUpSays x s → r ≡ s
+page_align_up_one_answer x r s p q = answer_says_injective r s (p ∙ sym q)
 
 pub round_to_pages_one_answer : (x r s : ℕ) → RoundToPagesSays x r → RoundToPagesSays x s → r ≡ s
 round_to_pages_one_answer x r s p q = p ∙ sym q

@@ -1,13 +1,13 @@
 // Pages of 4,096 bytes, at 64 bits.
 ghost use Rattle.rounding.specs.Pages.{PageAlignUpSays, RoundToPagesSays, PageOffsetSays};
 
-use crate::wide::align_up;
-use answers::Number;
+use crate::align_up;
+use answers::Refusal;
 
 const PAGE_SIZE: u64 = 4096;
 
 // The first page boundary that is not below x; refused with 9 where it does not fit 64 bits.
-pub fn page_align_up(x: u64) -> Number
+pub fn page_align_up(x: u64) -> Result<u64, Refusal>
     ensures { PageAlignUpSays x result }
 {
     align_up(x, PAGE_SIZE)

@@ -1,25 +1,27 @@
 -- What the loops over the words come to: the reasons behind `rows`. Assumes nothing.
-use mathlib.Core.Path.{◌≡◌, refl, sym, ap, ap₂, fun_ext, ◌∙◌}
+use mathlib.Core.Path.{◌≡◌, refl, sym, ap, ap₂, subst, fun_ext, ◌∙◌}
 use mathlib.Core.Logic.{◌↔◌}
 use mathlib.Core.Bool.{Bool, true, false, not, ◌&&◌, ◌||◌, true≢false, false≢true}
 use mathlib.Core.List.{List}
 use Prim.Native.Nat.{ℕ, suc, ◌+◌, ◌-◌, ◌*◌, ◌/◌, ◌%◌, ◌^◌, ◌≤◌, ◌<◌, zero-le, min}
-use native.Mathlib.Nat.{lt_of_le_of_lt, mod-eq_of_lt, zero-add, lt_of_not-le, min-eq_left, le_refl, le_trans, le_of_lt, pos_of_ne-zero}
+use native.Mathlib.Nat.{lt_of_le_of_lt, mod-eq_of_lt, zero-add, lt_of_not-le, min-eq_left, min-eq_right, le_refl, le_trans, le_of_lt, pos_of_ne-zero, one-mul}
 use native.Mathlib.Omega.{arith}
 use mir.Val.{bool_byte}
-use lib.ListN.{length, get_or, set, get_or-eq_default}
+use lib.ListN.{length, get_or, set, take, length-take, get_or-eq_default}
 use lib.Bits.{bit_or, bit_and, or_lt, and_le_l}
 use lib.Dec.{T, leb, ltb, eqb, leb→le, le→leb, ltb→lt, lt→ltb}
-use lib.Pow.{pow_pos, pow-lt}
+use lib.Pow.{pow_pos, pow-lt, shl_exact}
 use borrow.Author.Tests.{lt-ltb, le-ltb, lt-leb, le-leb, eq-eqb, ne_eqb, ltb-true, ltb-false, eqb-true, eqb-false, leb-true, leb-false, not-true, not-false}
 use Rattle.bits.specs.Range.{bit, and_true, and_false, or_false, either, same_test, within, within_named, within_found, finds_every, least, least_is, least_none, least_from, least_to, least_passes, least_first, count, count_agree, count_most, count_split, count_moved}
 use Rattle.bits.specs.Digits.{digit, number, number_agree, number_lt, zero_digit, up_digit, power_digit}
 use Rattle.bits.proofs.Digits.{digit_number, number_is, and_digit, or_digit, bit_digit, complement_digit, read_digit}
-use Rattle.slots.specs.Sets.{Slots, Named, all_free, all_used, finds_all_free, finds_all_used}
+use Rattle.slots.specs.Sets.{Slots, Named, all_free, finds_all_free, finds_all_used}
 use Rattle.slots.specs.Lowest.{free_from}
 use Rattle.slots.specs.Gaps.{having, has_value, has_other}
 use Rattle.places.specs.Places.{run_mask, free_in, used_in, painted_in}
-use Rattle.rows.specs.Rows.{mark_test, with_bit, open_from}
+use Rattle.rows.specs.declared.Mark.{Mark}
+use Rattle.rows.specs.declared.Mark.TheVariants.{Used, Full}
+use Rattle.rows.specs.Rows.{mark_test, with_bit, open_from, mask_has, run_has}
 use Rattle.views.specs.Marks.{passes_at, part_words}
 use Rattle.views.specs.Full.{marked, filled, filled_slots, filled_open, filled_marked, seen_from}
 use Rattle.views.proofs.Full.{filled_used}
@@ -34,22 +36,24 @@ first_places f w i = number (λ p. ltb p i && f p) w
 pub no_places : (f : ℕ → Bool) (w : ℕ) → 0 ≡ first_places f w 0
 no_places f w = number_is w 0 _ (pow_pos w) (λ p l. zero_digit p ∙ ap (λ (b : Bool). b && f p) (sym (le-ltb p 0 zero-le)))
 
-pub all_places : (f : ℕ → Bool) (w : ℕ) → first_places f w w ≡ number f w
-all_places f w = number_agree (λ p. ltb p w && f p) f w (λ p l. rw (lt-ltb p w l))
-
 -- a word of a part is one of the words, and there are sixteen at most
 pub part_there : (words : List ℕ) (i : ℕ) → i < part_words words → (i < length words) × (i < 16)
 unfolding part_words
 part_there words i l = (omega arith, omega arith)
+
+-- so many words are lent where a part's words are walked
+pub part_lent : (words : List ℕ) → length (take (part_words words) words) ≡ part_words words
+unfolding part_words
+part_lent words = simp length-take (omega arith)
 
 pub part_most : (words : List ℕ) → part_words words ≤ 16
 unfolding part_words
 part_most words = omega arith
 
 -- 0 is not marked, neither as used nor as full
-pub zero_fails : (full : Bool) → mark_test full 0 ≡ false
-zero_fails true = refl
-zero_fails false = refl
+pub zero_fails : (mark : Mark) → mark_test mark 0 ≡ false
+zero_fails Used = refl
+zero_fails Full = refl
 
 -- a word past the part's last is 0, so where 0 does not pass the places of the part's words are all
 pub part_places : (test : ℕ → Bool) → test 0 ≡ false → (words : List ℕ) → first_places (passes_at test words) 16 (part_words words) ≡ number (passes_at test words) 16
@@ -89,10 +93,10 @@ next_place f w i l = number_is w _ _ (or_lt w _ _ (number_lt _ w) (placed (f i) 
 -- ---- marks brought up to date place by place
 
 -- a place cleared and then set as v has it
-pub replaced : (marks i : ℕ) (v : Bool) → marks < 2 ^ 16 → i < 16
+cleared_set : (marks i : ℕ) (v : Bool) → marks < 2 ^ 16 → i < 16
     → bit_or (bit_and marks ((2 ^ 16 - 1) - 2 ^ i)) (bit v * 2 ^ i) ≡ with_bit marks v i
 unfolding with_bit
-replaced marks i v held l = number_is 16 _ _ (or_lt 16 _ _ (lt_of_le_of_lt (and_le_l marks _) held) (placed v 16 i l)) (λ p m.
+cleared_set marks i v held l = number_is 16 _ _ (or_lt 16 _ _ (lt_of_le_of_lt (and_le_l marks _) held) (placed v 16 i l)) (λ p m.
     or_digit (bit_and marks ((2 ^ 16 - 1) - 2 ^ i)) (bit v * 2 ^ i) p
     ∙ ap₂ (λ (b c : Bool). b || c)
     (and_digit marks _ p ∙ ap (λ (b : Bool). digit marks p && b) (complement_digit 16 (2 ^ i) p (pow-lt l) m ∙ ap not (power_digit i p)))
@@ -107,6 +111,12 @@ replaced marks i v held l = number_is 16 _ _ (or_lt 16 _ _ (lt_of_le_of_lt (and_
         either (leb i p)
         (λ t. rw (e, t, ne_eqb (p - i) 0 (λ h. other (omega (arith, leb-true i p t, h))), and_true (digit marks p)) (or_false (digit marks p)))
         (λ t. rw (e, t, and_true (digit marks p)) (or_false (digit marks p))))
+
+-- the same as the machine does it, which moves a 1 up
+pub replaced : (marks i : ℕ) (v : Bool) → marks < 2 ^ 16 → i < 16 → with_bit marks v i ≡ bit_or (bit_and marks ((2 ^ 16 - 1) - 1 * 2 ^ i % 2 ^ 16)) (bit v * 2 ^ i)
+replaced marks i v held l =
+    sym (ap (λ (one : ℕ). bit_or (bit_and marks ((2 ^ 16 - 1) - one)) (bit v * 2 ^ i)) (shl_exact 1 i 16 (omega arith) (omega arith) ∙ one-mul (2 ^ i))
+    ∙ cleared_set marks i v held l)
 
 -- the reached bits of the words below i are up to date
 abbrev pub touched_first : (ℕ → Bool) → List ℕ → ℕ → ℕ → ℕ → ℕ → ℕ
@@ -155,6 +165,11 @@ module _ (test : ℕ → Bool) (words : List ℕ) (marks s e : ℕ) where
           (λ t. rw (t, and_false (reaches s e p), le-ltb (p * 64) e (omega (arith, ltb-false p i t))) (sym (and_false (leb (s / 64) p))))
 
 -- ---- slots counted word by word
+
+-- so many words are lent where the words that hold slots are walked
+pub words_lent : (words : List ℕ) → length (take (slots_in words / 64) words) ≡ slots_in words / 64
+unfolding slots_in
+words_lent words = simp length-take (omega arith)
 
 pub word_most : (word r : ℕ) → r ≡ count (digit word) 0 64 → r ≤ 64
 word_most word r e = rw e (count_most (digit word) 0 64)
@@ -280,6 +295,40 @@ module _ (words : List ℕ) (from end start : ℕ) (passed : PassedFree words fr
       sym (least_none (slot_in words) from (end - from) (λ p f b.
       either (ltb p start) (λ t. passed.free p f (ltb-true p start t) (omega arith)) (λ t. more p (ltb-false p start t) (omega arith))) ∙ omega arith)
 
+-- word i, which is not marked, asked from the start on: its complement's first free place is its first used one
+module _ (words fulls : List ℕ) (from end start i place : ℕ) (passed : PassedFree (filled words fulls) from end start) (inside : start < slots_in words) (at : i ≡ start / 64)
+    (held : get_or words i 0 < 2 ^ 64) (unmarked : marked fulls i ≡ false) (told : place ≡ free_from 6 (digit ((2 ^ 64 - 1) - get_or words i 0)) (start % 64)) where
+  abbrev complement : ℕ
+  complement = (2 ^ 64 - 1) - get_or words (start / 64) 0
+
+  asked_as : (p : ℕ) → p < 64 → digit complement p ≡ having false (digit (get_or words (start / 64) 0)) p
+  asked_as p l = complement_digit 64 (get_or words (start / 64) 0) p (subst (λ (j : ℕ). get_or words j 0 < 2 ^ 64) at held) l
+
+  told_as : place ≡ free_from 6 (digit complement) (start % 64)
+  told_as = told ∙ ap (λ (j : ℕ). free_from 6 (digit ((2 ^ 64 - 1) - get_or words j 0)) (start % 64)) at
+
+  as_it_is : (p : ℕ) → p / 64 ≡ start / 64 → slot_in (filled words fulls) p ≡ slot_in words p
+  as_it_is p same = filled_open words fulls p (ap (marked fulls) (same ∙ sym at) ∙ unmarked)
+
+  pub used_next : 64 ≤ place → PassedFree (filled words fulls) from end ((i + 1) * 64)
+  used_next none = free_on (filled words fulls) from end start passed ((i + 1) * 64) (omega arith)
+      (λ p l b. as_it_is p (omega arith) ∙ word_full false words start complement place inside asked_as told_as none p l (omega arith))
+
+  pub used_answer : place < 64 → from < end → min end (i * 64 + place) ≡ least (slot_in (filled words fulls)) from (end - from)
+  used_answer here some =
+      ap (λ (j : ℕ). min end (j * 64 + place)) at
+      ∙ either (leb end found)
+      (λ t. min-eq_left (leb-true end found t) ∙ used_late (filled words fulls) from end start passed found (le_of_lt some) (leb-true end found t) free_before)
+      (λ t. min-eq_right (le_of_lt (leb-false end found t))
+      ∙ used_found (filled words fulls) from end start passed found (word_from false words start complement place inside asked_as told_as) (leb-false end found t)
+      (as_it_is found (omega arith) ∙ word_stops false words start complement place inside asked_as told_as here) free_before)
+    where
+      found : ℕ
+      found = start / 64 * 64 + place
+
+      free_before : (p : ℕ) → start ≤ p → p < found → slot_in (filled words fulls) p ≡ false
+      free_before p l b = as_it_is p (omega arith) ∙ word_has false words start complement place inside asked_as told_as here p l b
+
 -- ---- going by the marks of full words
 
 -- past the marks no word is marked
@@ -393,6 +442,50 @@ module _ (words fulls : List ℕ) (from : ℕ) where
       (ap (λ (b : Bool). not (elim b [ true ↦ slot_in words from | false ↦ slot_in (filled words fulls) from ])) (eq-eqb from from refl) ∙ ap not free)
       (λ p l b. absurd (omega arith))))
 
+-- the next word is one of 256, or their end
+pub next_near : (words : List ℕ) (s : ℕ) → s < slots_in words → s / 64 + 1 ≤ 256
+next_near words s l = omega (arith, slots_most words)
+
+-- the word of the start, asked for its first free place from there on
+module _ (words fulls : List ℕ) (from start place : ℕ) (searching : Searching words fulls from start) (inside : start < slots_in words)
+    (told : place ≡ free_from 6 (digit (get_or words (start / 64) 0)) (start % 64)) where
+  abbrev seen_words : List ℕ
+  seen_words = filled words fulls
+
+  come_to : Passed seen_words from start
+  come_to = subst (Passed seen_words from) (min-eq_left (le_of_lt inside)) searching
+
+  whole_word : (start / 64 + 1) * 64 ≤ slots_in words
+  whole_word = (word_there words (start / 64) (omega arith)).2
+
+  same_word : (p : ℕ) → start ≤ p → p < (start / 64 + 1) * 64 → p / 64 ≡ start / 64
+  same_word p l b = omega arith
+
+  -- a free place of a word that is not marked is the answer
+  pub found_free : place < 64 → marked fulls (start / 64) ≡ false → start / 64 * 64 + place ≡ free_from 14 (slot_in seen_words) from
+  found_free here unmarked =
+      let found : ℕ = start / 64 * 64 + place in
+      let later = word_from true words start (get_or words (start / 64) 0) place inside (λ p l. refl) told in
+      passed_found seen_words from start come_to found later (omega (arith, whole_word, slots_most words))
+      (filled_open words fulls found (ap (marked fulls) (same_word found later (omega arith)) ∙ unmarked) ∙ word_stops true words start (get_or words (start / 64) 0) place inside (λ p l. refl) told here)
+      (λ p l b. filled_used words fulls p (omega (arith, whole_word)) (word_has true words start (get_or words (start / 64) 0) place inside (λ p l. refl) told here p l b))
+
+  -- where the word has none, or is marked, the search goes on at the next word that is not marked
+  module _ (next : ℕ) (goes : next ≡ open_from fulls (start / 64 + 1) * 64) where
+    goes_on : ((p : ℕ) → start ≤ p → p < (start / 64 + 1) * 64 → slot_in seen_words p ≡ true) → Searching words fulls from next
+    goes_on none = searching_on words fulls from (start / 64 + 1) next
+        (passed_on seen_words from start come_to ((start / 64 + 1) * 64) (omega arith) (omega (arith, whole_word, slots_most words)) none) whole_word goes
+
+    pub next_after_marked : marked fulls (start / 64) ≡ true → Searching words fulls from next
+    next_after_marked is = goes_on (λ p l b. filled_marked words fulls p (omega (arith, whole_word)) (ap (marked fulls) (same_word p l b) ∙ is))
+
+    pub next_after_used : 64 ≤ place → Searching words fulls from next
+    next_after_used none = goes_on (λ p l b. filled_used words fulls p (omega (arith, whole_word)) (word_full true words start (get_or words (start / 64) 0) place inside (λ q h. refl) told none p l b))
+
+-- the word that holds a slot
+pub word_of : (words : List ℕ) (s : ℕ) → s < slots_in words → s / 64 < length words
+word_of words s l = (word_there words (s / 64) (omega arith)).0
+
 -- a slot of the words, as the machine reads it
 pub read_slot : (words : List ℕ) (s : ℕ) → s < slots_in words → eqb (get_or words (s / 64) 0 / 2 ^ (s % 64) % 2) 1 ≡ slot_in words s
 read_slot words s l = read_digit (get_or words (s / 64) 0) (s % 64) ∙ sym (slot_there words s l)
@@ -403,10 +496,10 @@ pub before_end : (slots s n e : ℕ) → e ≡ end_in slots s n → (e ≤ slots
 unfolding end_in
 before_end slots s n e is = (omega (arith, is), omega (arith, is))
 
--- before the words' end it is the run's own
-pub ends_inside : (slots s n e : ℕ) → e ≡ end_in slots s n → e < slots → e ≡ s + n
+-- of a run that begins in the words it is not before the run's start
+pub after_start : (words : List ℕ) (s n : ℕ) → s < slots_in words → end_in (slots_in words) s n ≡ s + (end_in (slots_in words) s n - s)
 unfolding end_in
-ends_inside slots s n e is l = omega (arith, is)
+after_start words s n inside = omega arith
 
 -- what is left of the run from there on lies past the words, and is free
 pub free_past : (words : List ℕ) (s n e p : ℕ) → e ≡ end_in (slots_in words) s n → e ≤ p → p < s + n → slot_in words p ≡ false
@@ -450,6 +543,16 @@ module _ (s e i : ℕ) where
 pub part_first : (s n : ℕ) → run_mask (s % 64) n ≡ part_mask s (s + n) (s / 64)
 part_first s n = ap₂ run_mask (omega arith) (omega arith) ∙ part_inside s (s + n) (s / 64) (omega arith) (omega arith)
 
+-- the same where it is one of the words, so that nothing of it is cut off
+pub first_part : (words : List ℕ) (s n : ℕ) → s < slots_in words → run_mask (s % 64) n ≡ part_mask s (end_in (slots_in words) s n) (s / 64)
+unfolding end_in run_mask part_mask within
+first_part words s n inside = number_agree _ _ 64 (λ p l. ap₂ (λ (b c : Bool). b && c)
+    (agree_leb (s % 64) p s (s / 64 * 64 + p) (λ h. omega arith) (λ h. omega arith))
+    (agree_leb (suc p) (s % 64 + n) (suc (s / 64 * 64 + p)) (min (s + n) (slots_in words)) (λ h. omega (arith, ends)) (λ h. omega arith)))
+  where
+    ends : (s / 64 + 1) * 64 ≤ slots_in words
+    ends = (word_there words (s / 64) (omega arith)).2
+
 -- ---- painting word by word
 
 module _ (words : List ℕ) (s e : ℕ) (v : Bool) where
@@ -473,16 +576,6 @@ unfolding end_in
 ends_within words s n = omega (arith, slots_most words)
 
 -- ---- a run asked word by word, for the value v: true where each slot is to be used, false where each is to be free
-
--- each place of the mask has the value
-abbrev pub mask_has : Bool → ℕ → ℕ → Bool
-mask_has true word mask = used_in word mask
-mask_has false word mask = free_in word mask
-
--- each of the n slots from s on has the value
-abbrev pub run_has : Bool → Slots → ℕ → ℕ → Bool
-run_has true S s n = all_used S s n
-run_has false S s n = all_free S s n
 
 finds_mask : (v : Bool) (word mask : ℕ) → T (mask_has v word mask) ↔ ((p : ℕ) → p < 64 → digit mask p ≡ true → digit word p ≡ v)
 unfolding used_in free_in
@@ -552,6 +645,15 @@ module _ (v : Bool) (words : List ℕ) (s n i : ℕ) (here : i * 64 < slots_in w
       either flag
       (λ yes_flag. yes_flag ∙ has_all v words s n (i + 1) (has_on yes_flag before) (λ p named past. absurd (omega (arith, named.1))))
       (λ no_flag. no_flag ∙ has_not no_flag)
+
+-- what of a run lies past the words is free, so it is enough to ask the part in them
+pub free_cut : (words : List ℕ) (s n e : ℕ) → e ≡ end_in (slots_in words) s n → all_free (slot_in words) s (e - s) ≡ all_free (slot_in words) s n
+free_cut words s n e is =
+    same_test (all_free (slot_in words) s (e - s)) (all_free (slot_in words) s n)
+    (λ t. (finds_all_free (slot_in words) s n).1 (λ p named.
+    either (ltb p e) (λ b. (finds_all_free (slot_in words) s (e - s)).0 t p (named.0, omega (arith, named.0, ltb-true p e b)))
+    (λ b. free_past words s n e p is (ltb-false p e b) named.1)))
+    (λ t. (finds_all_free (slot_in words) s (e - s)).1 (λ p named. (finds_all_free (slot_in words) s n).0 t p (named.0, omega (arith, named.0, named.1, before_end _ _ _ _ is))))
 
 -- ---- a run that is free and reaches no marked word
 

@@ -8,15 +8,18 @@ use Rattle.views.specs.Marks.{marks_of, touched_marks}
 use Rattle.views.specs.Summary.{not_zero}
 use Rattle.views.specs.Full.{all_ones, marked, filled, seen_from}
 use Rattle.views.specs.Count.{count_of}
-use Rattle.slots.specs.Sets.{all_free, all_used}
+use Rattle.rows.specs.declared.Mark.{Mark}
+use Rattle.rows.specs.declared.Mark.TheVariants.{Used, Full}
+use Rattle.slots.specs.Sets.{Slots, all_free, all_used}
+use Rattle.places.specs.Places.{free_in, used_in}
 use Rattle.slots.specs.Lowest.{free_from}
 
 -- ---- what is answered
 
 -- which words a mark tells of: those that are not 0, or those that are all ones
-abbrev pub mark_test : Bool → ℕ → Bool
-mark_test true = all_ones
-mark_test false = not_zero
+abbrev pub mark_test : Mark → ℕ → Bool
+mark_test Used = not_zero
+mark_test Full = all_ones
 
 -- the marks with bit i given the value v
 unfoldable pub with_bit : ℕ → Bool → ℕ → ℕ
@@ -25,6 +28,16 @@ with_bit marks v i = number (λ p. elim (eqb p i) [ true ↦ v | false ↦ digit
 -- the least word from i on that is not marked, or 256
 unfoldable pub open_from : List ℕ → ℕ → ℕ
 open_from fulls i = least (λ j. not (marked fulls j)) i (256 - i)
+
+-- each place of the mask has the value v
+abbrev pub mask_has : Bool → ℕ → ℕ → Bool
+mask_has true word mask = used_in word mask
+mask_has false word mask = free_in word mask
+
+-- each of the n slots from s on has it
+abbrev pub run_has : Bool → Slots → ℕ → ℕ → Bool
+run_has true S s n = all_used S s n
+run_has false S s n = all_free S s n
 
 -- ---- the contracts
 
@@ -54,11 +67,11 @@ AllUsedSays words start n r = r ≡ all_used (slot_in words) start n
 abbrev pub PaintSays : List ℕ → ℕ → ℕ → Bool → List ℕ → Type 0
 PaintSays words start n used left = left ≡ painted_words words start n used
 
-abbrev pub MarksSays : List ℕ → Bool → ℕ → Type 0
-MarksSays part full r = r ≡ marks_of (mark_test full) part
+abbrev pub MarksSays : List ℕ → Mark → ℕ → Type 0
+MarksSays part mark r = r ≡ marks_of (mark_test mark) part
 
-abbrev pub TouchedSays : List ℕ → ℕ → ℕ → ℕ → Bool → ℕ → Type 0
-TouchedSays part marks start n full r = r ≡ touched_marks (mark_test full) part marks start n
+abbrev pub TouchedSays : List ℕ → ℕ → ℕ → ℕ → Mark → ℕ → Type 0
+TouchedSays part marks start n mark r = r ≡ touched_marks (mark_test mark) part marks start n
 
 abbrev pub EndOfSays : ℕ → ℕ → ℕ → ℕ → Type 0
 EndOfSays slots start n r = r ≡ end_in slots start n
@@ -90,11 +103,11 @@ pub paint_one_answer : (words : List ℕ) (start n : ℕ) (used : Bool) (left ot
     → left ≡ other
 paint_one_answer words start n used left other p o = p ∙ sym o
 
-pub marks_one_answer : (part : List ℕ) (full : Bool) (r q : ℕ) → MarksSays part full r → MarksSays part full q → r ≡ q
-marks_one_answer part full r q p o = p ∙ sym o
+pub marks_one_answer : (part : List ℕ) (mark : Mark) (r q : ℕ) → MarksSays part mark r → MarksSays part mark q → r ≡ q
+marks_one_answer part mark r q p o = p ∙ sym o
 
-pub touched_one_answer : (part : List ℕ) (marks start n : ℕ) (full : Bool) (r q : ℕ) → TouchedSays part marks start n full r → TouchedSays part marks start n full q → r ≡ q
-touched_one_answer part marks start n full r q p o = p ∙ sym o
+pub touched_one_answer : (part : List ℕ) (marks start n : ℕ) (mark : Mark) (r q : ℕ) → TouchedSays part marks start n mark r → TouchedSays part marks start n mark q → r ≡ q
+touched_one_answer part marks start n mark r q p o = p ∙ sym o
 
 pub end_of_one_answer : (slots start n r q : ℕ) → EndOfSays slots start n r → EndOfSays slots start n q → r ≡ q
 end_of_one_answer slots start n r q p o = p ∙ sym o

@@ -4,24 +4,28 @@
 // longer row the rest is not looked at. Rests on `places`.
 #![tactic(auto)]
 
-ghost use Rattle.std.specs.Prelude.{◌≡◌, ◌≤◌, ◌<◌, ◌*◌, ◌^◌};
+ghost use Rattle.std.specs.Prelude.{◌≡◌, ◌-◌, ◌≤◌, ◌<◌, ◌*◌, ◌^◌};
 ghost use Rattle.bits.specs.Range.{bit};
 ghost use Rattle.places.specs.Places.{RunMaskSays};
-ghost use Rattle.views.specs.Painting.{slots_in, part_mask};
+ghost use Rattle.views.specs.Painting.{slots_in, slot_in, end_in, part_mask};
 ghost use Rattle.views.specs.Full.{marked as wordMarked};
 ghost use Rattle.views.specs.Marks.{part_words};
-ghost use Rattle.rows.specs.Rows.{mark_test, open_from, GetSays, CountSays, FirstFreeSays, FirstUsedSays, AllFreeSays, FitsSays, AllUsedSays, PaintSays, MarksSays, TouchedSays, EndOfSays, with_bit};
+ghost use Rattle.rows.specs.Rows.{mark_test, open_from, mask_has, run_has, GetSays, CountSays, FirstFreeSays, FirstUsedSays, AllFreeSays, FitsSays, AllUsedSays, PaintSays, MarksSays, TouchedSays, EndOfSays, with_bit};
 
 // Where the masks of a run come from: claim and set read the table of low masks, take and free build
 // them by shifts.
-pub const TABLE: bool = true;
-
-pub const SHIFTS: bool = false;
+#[derive(Clone, Copy, PartialEq, Eq, Debug)]
+pub enum Masks {
+    Table,
+    Shifts,
+}
 
 // Which words are marked: those that are not 0, or those that are all ones.
-pub const USED: bool = false;
-
-pub const FULL: bool = true;
+#[derive(Clone, Copy, PartialEq, Eq, Debug)]
+pub enum Mark {
+    Used,
+    Full,
+}
 
 const MOST_WORDS: usize = 256;
 
@@ -30,9 +34,8 @@ const MOST_SLOTS: usize = 16384;
 // How many words a mark tells of, a bit each.
 const PARTS: usize = 16;
 
-const ALL: u64 = 0xffff_ffff_ffff_ffff;
-
 // Whether the slot is used; past the words, no.
+#[tactic(auto, using(views::specs::Painting::slot_past, crate::proofs::Reasons::word_of, crate::proofs::Reasons::read_slot))]
 pub fn get(words: &[u64], slot: usize) -> bool
     ensures { GetSays words.now slot result }
 {
@@ -43,15 +46,13 @@ pub fn get(words: &[u64], slot: usize) -> bool
 }
 
 // How many slots are used.
+#[tactic(auto, using(crate::proofs::Reasons::words_lent, views::specs::Painting::slots_most))]
 pub fn count(words: &[u64]) -> u16
     ensures { CountSays words.now result }
 {
-    let end = slots(words);
     let mut total = 0;
-    let mut i = 0;
-    while i * 64 < end {
-        total = total + places::count(words[i]);
-        i += 1;
+    for word in &words[..slots(words) / 64] {
+        total += places::count(*word);
     }
     total as u16
 }
@@ -60,6 +61,9 @@ pub fn count(words: &[u64]) -> u16
 // or beyond. The slot `from` itself is asked first, and only then words: where it is free, a search goes
 // on without waiting for a count of zeros. `fulls` marks full words, sixteen to a mark: from there on a
 // word that is marked counts as full, whatever it holds, and is passed over.
+// Two parameters and no struct, here and in `judges`: `FirstFreeSays`, `FitsSays` and `TakeSays` speak of two
+// lists, and each map holds them apart. The end and no `Option`, here and in `first_used`: `FirstFreeSays` and
+// `FirstUsedSays` promise it, and each caller compares what it is told with an end of its own.
 pub fn first_free<'a>(words: &'a [u64], fulls: &'a [u16], from: usize) -> usize
     ensures { FirstFreeSays words.now fulls.now from result }
 {
@@ -70,6 +74,7 @@ pub fn first_free<'a>(words: &'a [u64], fulls: &'a [u16], from: usize) -> usize
         return from;
     }
     let end = slots(words);
+    // A `while`, since the step is not one: the marks say which word is next.
     let mut start = from;
     while start < end {
         let i = start / 64;
@@ -86,57 +91,35 @@ pub fn first_free<'a>(words: &'a [u64], fulls: &'a [u16], from: usize) -> usize
 
 // The least used slot from `from` on and before `end`, or `end` where there is none: where a run of free
 // slots ends. Past the words no slot is used. Where `end` is not above `from` the answer is `from`.
-// `fulls` marks full words as above: a word that is marked counts as full.
+// `fulls` marks full words as above: a word that is marked counts as full. Not one function with
+// `first_free`, which jumps by the marks where this one stops at them.
 pub fn first_used<'a>(words: &'a [u64], fulls: &'a [u16], from: usize, end: usize) -> usize
     ensures { FirstUsedSays words.now fulls.now from end result }
 {
     if end <= from {
         return from;
     }
-    let stop = end_of(slots(words), from, end - from);
-    let mut start = from;
-    while start < stop {
-        if marked(fulls, start / 64) {
+    for i in from / 64..end.min(slots(words)).div_ceil(64) {
+        let start = from.max(i * 64);
+        if marked(fulls, i) {
             return start;
         }
-        let i = start / 64;
         let place = places::first_free(!words[i], start % 64);
         if place < 64 {
-            let found = i * 64 + place;
-            if end <= found {
-                return end;
-            }
-            return found;
+            return end.min(i * 64 + place);
         }
-        start = (i + 1) * 64;
     }
     end
 }
 
-// Whether each of the n slots from `start` on is free, asked word by word: the run's part of its first
-// word, then whole words, then what is left of it in its last. Past the words, each is.
+// Whether each of the n slots from `start` on is free; past the words, each is.
 pub fn all_free(words: &[u64], start: usize, n: usize) -> bool
     ensures { AllFreeSays words.now start n result }
 {
-    let held = slots(words);
-    if held <= start {
+    if slots(words) <= start {
         return true;
     }
-    if !places::all_free(words[start / 64], places::run_mask(start % 64, n)) {
-        return false;
-    }
-    let end = end_of(held, start, n);
-    let mut i = start / 64 + 1;
-    while (i + 1) * 64 <= end {
-        if !places::all_free(words[i], places::run_mask(0, 64)) {
-            return false;
-        }
-        i += 1;
-    }
-    if end <= i * 64 {
-        return true;
-    }
-    places::all_free(words[i], places::run_mask(0, end - i * 64))
+    all_are(words, start, n, false)
 }
 
 // The same where `fulls` marks full words, sixteen to a mark: no slot of a word that is marked counts as
@@ -151,17 +134,15 @@ pub fn fits<'a>(words: &'a [u64], fulls: &'a [u16], start: usize, n: usize) -> b
         return true;
     }
     let end = end_of(slots(words), start, n);
-    let mut i = start / 64;
-    while i * 64 < end {
-        if marked(fulls, i) {
+    for reached in start / 64..end.div_ceil(64) {
+        if marked(fulls, reached) {
             return false;
         }
-        i += 1;
     }
     true
 }
 
-// Whether each of the n slots from `start` on is used, asked word by word; past the words, none is.
+// Whether each of the n slots from `start` on is used; past the words, none is.
 pub fn all_used(words: &[u64], start: usize, n: usize) -> bool
     ensures { AllUsedSays words.now start n result }
 {
@@ -175,99 +156,121 @@ pub fn all_used(words: &[u64], start: usize, n: usize) -> bool
     if held - start < n {
         return false;
     }
-    let end = start + n;
-    let mut i = start / 64;
-    while i * 64 < end {
-        if !places::all_used(words[i], part_mask(start, end, i, false)) {
-            return false;
-        }
-        i += 1;
-    }
-    true
+    all_are(words, start, n, true)
 }
 
-// Gives the n slots from `start` on the value `used`, as far as there are slots. `table`, which is
-// `TABLE` or `SHIFTS`, changes nothing else than where the masks come from.
-pub fn paint(words: &mut [u64], start: usize, n: usize, used: bool, table: bool)
+// Whether each of the n slots from `start` on that there are has the value `used`, asked word by word:
+// the run's part of its first word, then whole words, then what is left of it in its last.
+fn all_are(words: &[u64], start: usize, n: usize, used: bool) -> bool
+    requires { start < slots_in words.now }
+    ensures { result ≡ run_has used (slot_in words.now) start (end_in (slots_in words.now) start n - start) }
+{
+    if !word_is(words[start / 64], places::run_mask(start % 64, n), used) {
+        return false;
+    }
+    let end = end_of(slots(words), start, n);
+    let last = end / 64;
+    for i in start / 64 + 1..last {
+        if !word_is(words[i], places::run_mask(0, 64), used) {
+            return false;
+        }
+    }
+    if last == start / 64 || end % 64 == 0 {
+        return true;
+    }
+    word_is(words[last], places::run_mask(0, end % 64), used)
+}
+
+// Whether each place of the mask has the value `used` in the word: by the value, as `mask_has` and the walk
+// above have it, so that one proof does for both.
+fn word_is(word: u64, mask: u64, used: bool) -> bool
+    ensures { result ≡ mask_has used word mask }
+{
+    if used {
+        return places::all_used(word, mask);
+    }
+    places::all_free(word, mask)
+}
+
+// Gives the n slots from `start` on the value `used`, as far as there are slots. `masks` changes nothing
+// else than where the masks come from.
+pub fn paint(words: &mut [u64], start: usize, n: usize, used: bool, masks: Masks)
     ensures { PaintSays words.old start n used words.new }
 {
     let end = end_of(slots(words), start, n);
-    let mut i = start / 64;
-    while i * 64 < end {
-        words[i] = places::paint(words[i], part_mask(start, end, i, table), used);
-        i += 1;
+    for i in start / 64..end.div_ceil(64) {
+        words[i] = places::paint(words[i], part_mask(start, end, i, masks), used);
     }
 }
 
 // ---- marks of a part of the words, sixteen at most: bit i is 1 exactly if word i is not 0, or exactly
-// if it is all ones, as `full` says, which is `USED` or `FULL`
+// if it is all ones, as `mark` says
 
 // The marks that a part has.
-pub fn marks(part: &[u64], full: bool) -> u16
-    ensures { MarksSays part.now full result }
+#[tactic(auto, using(crate::proofs::Reasons::part_lent))]
+pub fn marks(part: &[u64], mark: Mark) -> u16
+    ensures { MarksSays part.now mark result }
 {
-    let end = words_of(part);
     let mut marks = 0;
-    let mut i = 0;
-    while i < end {
-        marks = marks | mark_bit(part[i], i, full);
-        i += 1;
+    for (i, word) in part[..words_of(part)].iter().enumerate() {
+        marks |= mark_bit(*word, i, mark);
     }
     marks
 }
 
 // The marks with the bit of each word that the n slots from `start` on reach brought up to date, set or
 // cleared; the other bits stay.
-pub fn touched(part: &[u64], marks: u16, start: usize, n: usize, full: bool) -> u16
-    ensures { TouchedSays part.now marks start n full result }
+#[tactic(auto, using(crate::proofs::Reasons::part_most))]
+pub fn touched(part: &[u64], marks: u16, start: usize, n: usize, mark: Mark) -> u16
+    ensures { TouchedSays part.now marks start n mark result }
 {
     let end = end_of(words_of(part) * 64, start, n);
     let mut updated = marks;
-    let mut i = start / 64;
-    while i * 64 < end {
-        updated = with_bit(updated, part[i], i, full);
-        i += 1;
+    for i in start / 64..end.div_ceil(64) {
+        updated = with_bit(updated, part[i], i, mark);
     }
     updated
 }
 
 // The marks with bit i as the word has it.
-fn with_bit(marks: u16, word: u64, i: usize, full: bool) -> u16
+#[tactic(auto, using(crate::proofs::Reasons::replaced))]
+fn with_bit(marks: u16, word: u64, i: usize, mark: Mark) -> u16
     requires { i < 16 }
-    ensures { result ≡ with_bit marks (mark_test full word) i }
+    ensures { result ≡ with_bit marks (mark_test mark word) i }
 {
-    (marks & !(1 << i)) | mark_bit(word, i, full)
+    (marks & !(1 << i)) | mark_bit(word, i, mark)
 }
 
-fn mark_bit(word: u64, i: usize, full: bool) -> u16
+#[tactic(auto, using(crate::proofs::Reasons::shifted_bit))]
+fn mark_bit(word: u64, i: usize, mark: Mark) -> u16
     requires { i < 16 }
-    ensures { result ≡ bit (mark_test full word) * 2 ^ i }
+    ensures { result ≡ bit (mark_test mark word) * 2 ^ i }
 {
-    (is_marked(word, full) as u16) << i
+    u16::from(is_marked(word, mark)) << i
 }
 
-fn is_marked(word: u64, full: bool) -> bool
-    ensures { result ≡ mark_test full word }
+fn is_marked(word: u64, mark: Mark) -> bool
+    ensures { result ≡ mark_test mark word }
 {
-    if full {
-        return word == ALL;
+    match mark {
+        Mark::Used => word != 0,
+        Mark::Full => word == u64::MAX,
     }
-    word != 0
 }
 
 // How many words a part has, sixteen at most.
+#[tactic(auto, unfolding(views::specs::Marks::part_words))]
 fn words_of(part: &[u64]) -> usize
     ensures { result ≡ part_words part.now }
 {
-    if PARTS <= part.len() {
-        return PARTS;
-    }
-    part.len()
+    part.len().min(PARTS)
 }
 
 // ---- going by the marks of full words
 
-// Whether word i is marked; past the marks, no.
+// Whether word i is marked; past the marks, no. The same as `get` but for the size of a word, and
+// without its end after 256 words: one function would need a trait for both sizes, and to be told of the end.
+#[tactic(auto, using(crate::proofs::Reasons::unmarked_past, crate::proofs::Reasons::read_mark))]
 fn marked(fulls: &[u16], i: usize) -> bool
     ensures { result ≡ wordMarked fulls.now i }
 {
@@ -277,18 +280,20 @@ fn marked(fulls: &[u16], i: usize) -> bool
     (fulls[i / PARTS] >> (i % PARTS)) % 2 == 1
 }
 
-// The least word from `from` on that is not marked, or 256: the first free place of a mark.
+// The least word from `from` on that is not marked, or 256: the first free place of a mark. 256 and no
+// `Option`: the search that asks goes on from it, and so ends.
 fn next_open(fulls: &[u16], from: usize) -> usize
     requires { from ≤ 256 }
     ensures { result ≡ open_from fulls.now from }
 {
+    // A `while`, since the step is not one: a mark without a free place passes sixteen words.
     let mut i = from;
     while i < MOST_WORDS {
         if fulls.len() <= i / PARTS {
             return i;
         }
         let first = i / PARTS * PARTS;
-        let place = places::first_free(wide(fulls[i / PARTS]), i % PARTS);
+        let place = places::first_free(u64::from(fulls[i / PARTS]), i % PARTS);
         if place < PARTS {
             return first + place;
         }
@@ -297,58 +302,46 @@ fn next_open(fulls: &[u16], from: usize) -> usize
     MOST_WORDS
 }
 
-fn wide(mark: u16) -> u64
-    ensures { result ≡ mark }
-{
-    mark as u64
-}
-
 // ---- runs
 
 // How many slots the words hold.
+#[tactic(auto, unfolding(views::specs::Painting::slots_in))]
 fn slots(words: &[u64]) -> usize
     ensures { result ≡ slots_in words.now }
 {
-    if MOST_WORDS <= words.len() {
-        return MOST_SLOTS;
-    }
-    words.len() * 64
+    words.len().min(MOST_WORDS) * 64
 }
 
 // Where the n slots from `start` on end, among so many.
+#[tactic(auto, unfolding(views::specs::Painting::end_in))]
 pub fn end_of(slots: usize, start: usize, n: usize) -> usize
     ensures { EndOfSays slots start n result }
 {
-    if slots <= start {
-        return slots;
-    }
-    if slots - start < n {
-        return slots;
-    }
-    start + n
+    start.saturating_add(n).min(slots)
 }
 
 // Ones at the places of word i that lie in the run from `start` to `end`.
-fn part_mask(start: usize, end: usize, i: usize, table: bool) -> u64
+#[tactic(auto, using(crate::proofs::Reasons::part_to_end, crate::proofs::Reasons::part_none, crate::proofs::Reasons::part_inside))]
+fn part_mask(start: usize, end: usize, i: usize, masks: Masks) -> u64
     requires { (i * 64 < end) × (end ≤ 16384) }
     ensures { result ≡ part_mask start end i }
 {
     let first = i * 64;
     if start <= first {
-        return mask_from(0, end - first, table);
+        return mask_from(0, end - first, masks);
     }
     if end <= start {
         return 0;
     }
-    mask_from(start - first, end - start, table)
+    mask_from(start - first, end - start, masks)
 }
 
 // A run's mask, from the table or by shifts.
-fn mask_from(start: usize, n: usize, table: bool) -> u64
+fn mask_from(start: usize, n: usize, masks: Masks) -> u64
     ensures { RunMaskSays start n result }
 {
-    if table {
-        return places::table_mask(start, n);
+    match masks {
+        Masks::Table => places::table_mask(start, n),
+        Masks::Shifts => places::run_mask(start, n),
     }
-    places::run_mask(start, n)
 }

@@ -4,12 +4,15 @@ use mathlib.Core.Path.{◌≡◌, refl, sym, ap, ◌∙◌}
 use mathlib.Core.List.{List, [], ◌∷◌, ◌++◌, append_assoc, append-nil}
 use Prim.Native.Nat.{ℕ, suc, ◌+◌, ◌≤◌, ◌<◌}
 use native.Mathlib.Omega.{arith}
-use lib.ListN.{length, get_or, drop, length-append, length-drop, drop_of_length-le}
-use lib.Seq.{drop-cons}
+use lib.ListN.{length, get_or, take, drop, length-append, length-drop, drop_of_length-le}
+use lib.Seq.{drop-cons, drop-drop, take_all}
+use Rattle.std.proofs.Common.{le_of_eq, ◌-◌}
+use borrow.Rule.Slice.PartMut.{put_mid, post_of}
 use Rattle.answers.specs.Said.{value, judged, value≢refused, value_injective}
-use Rattle.answers.specs.Answers.{number_says}
-use Rattle.answers.specs.declared.Number.{Number}
-use Rattle.answers.specs.declared.Number.TheVariants.{Is, Refused}
+use Rattle.std.specs.Prelude.{Result, Ok, Err}
+use Rattle.std.specs.Result.{IsOk}
+use Rattle.answers.specs.Answers.{answer_says}
+use Rattle.answers.specs.declared.Refusal.{Refusal}
 use Rattle.slots.specs.Sets.{none}
 use Rattle.slots.specs.Calls.{says, used_call}
 use Rattle.slots.specs.View.{sound_answers}
@@ -24,7 +27,7 @@ use Rattle.report.specs.Report.{used, written, carried, report_from, report_end,
 use Rattle.report.proofs.Report.{report_reads}
 use Rattle.report.proofs.Limits.{report_fits}
 use Rattle.report.specs.Demands.{carried_sound}
-use Rattle.bits.specs.Buffers.{put_at, put_length}
+use Rattle.bits.specs.Buffers.{put_at}
 use Rattle.runner.specs.Inner.{line_says, field_says, PieceSays, StepSays, put_over}
 
 pub record Running (bytes before : List ℕ) (map : Tree) (next end : ℕ) (report : List ℕ) : Type 0 where
@@ -42,6 +45,26 @@ pub record Running (bytes before : List ℕ) (map : Tree) (next end : ℕ) (repo
 
 over_length : (text before : List ℕ) → length text ≤ length before → length (over text before) ≡ length before
 over_length text before fits = simp (length-append, length-drop) (omega arith)
+
+-- what is put at the start of what lies behind an offset
+module _ (report : List ℕ) (end : ℕ) where
+  abbrev behind : List ℕ
+  behind = take (length report - end) (drop end report)
+
+  behind_is : behind ≡ drop end report
+  behind_is = take_all (length report - end) (drop end report) (le_of_eq (length-drop end report))
+
+  pub rest_fits : (line : List ℕ) → end + length line ≤ length report → length line ≤ length behind
+  rest_fits line fits = let long = ap length behind_is ∙ length-drop end report in omega (arith, fits, long)
+
+  pub rest_put : (line part : List ℕ) → part ≡ over line behind → put_mid end (length report - end) report part ≡ put_at report end line
+  unfolding put_at
+  rest_put line part put =
+      (λ i. take end report ++ ((put ∙ ap (over line) behind_is ∙ ap (λ (l : List ℕ). line ++ l) (drop-drop (length line) end report)) i ++ none i))
+      ∙ ap (λ (l : List ℕ). take end report ++ l) (append-nil _)
+    where
+      none : post_of end (length report - end) report ≡ []
+      none = drop-drop (length report - end) end report ∙ drop_of_length-le report {i = end + (length report - end)} (omega arith)
 
 pub starts : (bytes before : List ℕ) (t : Tree) → t ≡ of_slots none → length bytes ≤ 32768 → 54624 ≤ length before → Running bytes before t 0 0 before
 starts bytes before t is limit room = record {
@@ -135,28 +158,29 @@ module _ {bytes before : List ℕ} {map : Tree} {next end : ℕ} {report : List 
 
   -- ---- the end
 
-  module _ (over-now : length bytes ≤ next) (count : Number) (counts : UsedSays map count) where
-    counted : number_says count ≡ value (used_call 10 (slot_of map)).answer
+  module _ (over-now : length bytes ≤ next) (count : Result ℕ Refusal) (counts : UsedSays map count) where
+    counted : answer_says count ≡ value (used_call 10 (slot_of map)).answer
     unfolding says used_call judged
     counted = counts ∙ sound_answers tree_view map (used_call 10 (slot_of map)) running.sound
 
-    pub not_refused : (why : _) → count ≡ Refused why → ⊥
-    not_refused why is = value≢refused _ _ (sym counted ∙ ap number_says is)
+    pub not_refused : IsOk count
+    not_refused = is_ok count refl
+      where
+        is_ok : (r : Result ℕ Refusal) → count ≡ r → IsOk r
+        is_ok (Ok n) is = refl
+        is_ok (Err why) is = absurd (value≢refused _ _ (sym counted ∙ ap answer_says is))
 
-    module _ (n : ℕ) (is : count ≡ Is n) where
+    module _ (n : ℕ) (is : count ≡ Ok n) where
       abbrev final : List ℕ
       final = written (used n)
 
       last_first : report_from map (drop next bytes) ≡ final ++ []
       last_first =
           ap (report_from map) (drop_of_length-le bytes {i = next} over-now) ∙ report_end map
-          ∙ ap (λ (k : ℕ). written (used k)) (value_injective (sym counted ∙ ap number_says is)) ∙ sym (append-nil final)
+          ∙ ap (λ (k : ℕ). written (used k)) (value_injective (sym counted ∙ ap answer_says is)) ∙ sym (append-nil final)
 
       pub last_fits : end + length final ≤ length report
       last_fits = has_room final [] last_first
-
-      pub keeps_length : (after : List ℕ) → after ≡ put_at report end final → length after ≡ length before
-      keeps_length after put = ap length put ∙ put_length report end final last_fits ∙ report_length
 
       pub finishes : (last : ℕ) (after : List ℕ) → last ≡ end + length final → after ≡ put_at report end final → (value last, after, map) ≡ ran_map bytes before
       finishes last after ends put =

@@ -1,5 +1,5 @@
 -- Texts that are put into a report one after the other, as `put_number` puts them. Assumes nothing.
-use mathlib.Core.Path.{◌≡◌, sym, ap, ◌∙◌}
+use mathlib.Core.Path.{◌≡◌, ap, ◌∙◌}
 use mathlib.Core.List.{List, ◌++◌, append_assoc}
 use Prim.Native.Nat.{ℕ, ◌+◌, ◌≤◌}
 use native.Mathlib.Omega.{arith}
@@ -52,13 +52,3 @@ module _ (report word : List ℕ) (offset n : ℕ) (fits : offset + length (numb
 
       pub all_length : (finish : ℕ) → finish ≡ last + 1 → finish ≡ offset + length (numbered word n)
       all_length finish e = omega (arith, e, further, ends, long)
-
--- ---- a text that is known to be another
-
-module _ (report : List ℕ) (offset : ℕ) (text other : List ℕ) (same : text ≡ other) where
-  pub room_for : offset + length text ≤ length report → offset + length other ≤ length report
-  room_for fits = let as_long = ap length same in omega (arith, as_long, fits)
-
-  pub put_as : (r : ℕ) (after : List ℕ) → (r ≡ offset + length other) × (after ≡ put_at report offset other)
-      → (r ≡ offset + length text) × (after ≡ put_at report offset text)
-  put_as r after put = (put.0 ∙ ap (λ (t : List ℕ). offset + length t) (sym same), put.1 ∙ ap (put_at report offset) (sym same))

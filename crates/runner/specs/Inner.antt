@@ -1,14 +1,14 @@
 -- What the private functions of the runner do: each enum of the code in the terms of `Fields` and `Report`, and what is put into a report. Rests on
 -- these two.
-use Rattle.std.specs.Prelude.{◌≡◌, List, ◌++◌, ℕ, ◌+◌, ◌≤◌, ◌<◌, length, take, drop}
-use Rattle.std.proofs.Common.{sym, ap, ◌∙◌, append_assoc, length-append, drop-drop}
+use Rattle.std.specs.Prelude.{◌≡◌, List, ◌++◌, ℕ, ◌+◌, ◌≤◌, ◌<◌, length, take, drop, Result}
+use Rattle.std.proofs.Common.{sym, ap, ◌∙◌, append_assoc, length-append, drop-drop, zero-add}
 use Rattle.std.proofs.Math.Seq.{take-append_seam, drop-append-add}
 use Rattle.answers.specs.Said.{Said, refused}
 use Rattle.answers.specs.Refusals.{number_of}
-use Rattle.answers.specs.Answers.{answer_says, number_says}
+use Rattle.answers.specs.Answers.{answer_says}
+use Rattle.answers.specs.declared.Reply.{Reply}
 use Rattle.answers.specs.declared.Refusal.{Refusal}
-use Rattle.answers.specs.declared.Number.{Number}
-use Rattle.answers.specs.declared.Answer.{Answer}
+use Rattle.answers.specs.declared.Changed.{Changed}
 use Rattle.slots.specs.Plain.{take as askTake, claim as askClaim, free as askFree}
 use Rattle.tree.specs.declared.Tree.{Tree}
 use Rattle.runner.specs.declared.Step.{Step}
@@ -38,7 +38,7 @@ field_says Field-as-Skip = skip
 field_says Field-as-Bad = bad
 field_says Field-as-Cut = cut
 
-abbrev pub answer_line : Answer → Line
+abbrev pub answer_line : Result Reply Refusal → Line
 answer_line answer = said (answer_says answer)
 
 abbrev pub line_says : CodeLine → Line
@@ -54,15 +54,20 @@ pub record PieceSays (bytes : List ℕ) (offset : ℕ) (r : Piece) : Type 0 wher
   pub inside : r.next ≤ length bytes
 
 -- a run that was refused
-abbrev pub RefusedSays : Refusal → Number → Tree → Type 0
-RefusedSays why r map = ◌≡◌ {A = Said ℕ × Tree} (number_says r, map) (refused (number_of why), empty_tree)
+abbrev pub RefusedSays : Refusal → Result ℕ Refusal → Tree → Type 0
+RefusedSays why r map = ◌≡◌ {A = Said ℕ × Tree} (answer_says r, map) (refused (number_of why), empty_tree)
 
 -- the line of a call and the map that it left; the line of any field and the map that it leaves
-abbrev pub SaidSays : Answer → Tree → Step → Type 0
-SaidSays answer left r = ◌≡◌ {A = Line × Tree} (line_says r.line, r.map) (answer_line answer, left)
+abbrev pub SaidSays : Changed Refusal Tree → Step → Type 0
+SaidSays changed r = ◌≡◌ {A = Line × Tree} (line_says r.line, r.map) (answer_line changed.answer, changed.map)
 
 abbrev pub StepSays : Tree → CodeField → Step → Type 0
 StepSays t field r = (line_says r.line, r.map) ≡ carried t (field_says field)
+
+-- what is put at a buffer's start
+pub put_start : (buffer text : List ℕ) → put_at buffer 0 text ≡ over text buffer
+unfolding put_at
+put_start buffer text = ap (λ (n : ℕ). text ++ drop n buffer) (zero-add (length text))
 
 -- what follows the report so far makes the report longer
 pub put_over : (buffer text more : List ℕ) → put_at (over text buffer) (length text) more ≡ over (text ++ more) buffer

@@ -31,7 +31,8 @@ pub struct Piece {
     pub next: usize,
 }
 
-// The field that begins at offset `at`. After a stop nothing is left to read.
+// The field that begins at offset `at`. After a stop nothing is left to read. The whole record is lent, and
+// not its rest: `guesses_the_rest_from_the_first_field`, which is refused here, reads the record's first byte.
 pub(crate) fn field_at(record: &[u8], at: usize) -> Piece
     requires { at < length «record».now }
     ensures { PieceSays «record».now at result }
@@ -113,23 +114,14 @@ fn field_of(kind: Kind, body: &[u8]) -> Field
     }
 }
 
-// The number in the two bytes from offset `at` on; a byte that is not there counts nothing.
+// The number in the two bytes from offset `at` on, low byte first; a byte that is not there counts
+// nothing, so this is more than `from_le_bytes`.
 fn number_at(bytes: &[u8], at: usize) -> usize
     ensures { result ≡ number_at bytes.now at }
 {
-    if bytes.len() <= at {
-        return 0;
+    match &bytes[at.min(bytes.len())..] {
+        [] => 0,
+        [low] => *low as usize,
+        [low, high, ..] => u16::from_le_bytes([*low, *high]) as usize,
     }
-    let low = wide(bytes[at]);
-    if bytes.len() - at < 2 {
-        return low;
-    }
-    wide(bytes[at + 1]) * 256 + low
-}
-
-fn wide(byte: u8) -> usize
-    ensures value { result ≡ byte }
-    ensures upper_bound { result < 256 }
-{
-    byte as usize
 }

@@ -10,7 +10,7 @@ ghost use Rattle.std.specs.Prelude.{◌≤◌, length};
 ghost use Rattle.report.specs.Report.{RunSays, RunMapSays, OutputSays};
 ghost use Rattle.runner.specs.Inner.{RefusedSays, SaidSays, StepSays};
 
-use answers::{Answer, Number, Refusal};
+use answers::{Changed, Refusal};
 use fields::Field;
 use lines::Line;
 use tree::Tree;
@@ -20,10 +20,11 @@ const RECORD_MOST: usize = 32768;
 
 const REPORT_LEAST: usize = 54624;
 
-// What a run said, and the map that the record leaves.
+// What a run said, and the map that the record leaves. The map stands beside the answer, and not in it,
+// since `run_map` promises one on a refusal too.
 #[derive(Drop)]
 pub struct Ran {
-    pub answer: Number,
+    pub answer: Result<u64, Refusal>,
     pub map: Tree,
 }
 
@@ -37,12 +38,10 @@ struct Step {
 // Writes the report of the record at the start of `report`, and answers its length; the bytes after
 // it stay. Refused with 12 where the record is longer than 32,768 bytes, and then with 11 where the
 // buffer is shorter than 54,624. A refusal leaves every byte of the buffer as it was.
-pub fn run(record: &[u8], report: &mut [u8]) -> Number
+pub fn run(record: &[u8], report: &mut [u8]) -> Result<u64, Refusal>
     ensures { RunSays «record».now report.old result report.new }
 {
-    let ran = run_map(record, report);
-    let answer = ran.answer;
-    answer
+    run_map(record, report).answer
 }
 
 // The same, with the map that the record leaves; where the run is refused that is the empty map.
@@ -62,7 +61,7 @@ fn refused(why: Refusal) -> Ran
     ensures { RefusedSays why result.answer result.map }
 {
     Ran {
-        answer: Number::Refused(why),
+        answer: Err(why),
         map: Tree::new_empty(),
     }
 }
@@ -76,22 +75,18 @@ fn reported(record: &[u8], report: &mut [u8]) -> Ran
     let mut map = Tree::new_empty();
     let mut next = 0;
     let mut length = 0;
+    // A `while`, since fields differ in length.
     while next < record.len() {
         let piece = fields::field_at(record, next);
-        let field = piece.field;
-        let step = carried_out(map, field);
-        let line = step.line;
-        length = lines::put_line(report, length, line);
+        let step = carried_out(map, piece.field);
+        length += lines::put_line(&mut report[length..], step.line);
         map = step.map;
         next = piece.next;
     }
-    let count = map.used();
-    let Number::Is(used) = count else {
-        return Ran { answer: count, map };
-    };
-    let end = lines::put_number(report, length, b"used ", used);
+    let used = map.used().unwrap();
+    length += lines::put_number(&mut report[length..], b"used ", used);
     Ran {
-        answer: Number::Is(end as u64),
+        answer: Ok(length as u64),
         map,
     }
 }
@@ -102,11 +97,10 @@ fn reported(record: &[u8], report: &mut [u8]) -> Ran
 pub fn output(record: &[u8], text: &mut [u8; 54624]) -> usize
     ensures { OutputSays «record».now text.old result text.new }
 {
-    let answer = run(record, text);
-    let Number::Is(length) = answer else {
-        return lines::put(text, 0, b"big\n");
-    };
-    length as usize
+    match run(record, text) {
+        Ok(length) => length as usize,
+        Err(_) => lines::put(text, b"big\n"),
+    }
 }
 
 // Carries a field out on the map.
@@ -114,21 +108,9 @@ fn carried_out(map: Tree, field: Field) -> Step
     ensures { StepSays map field result }
 {
     match field {
-        Field::Take { n, a } => {
-            let taken = map.take(n, a);
-            let answer = taken.answer;
-            said(answer, taken.map)
-        }
-        Field::Claim { start, n } => {
-            let claimed = map.claim(start, n);
-            let answer = claimed.answer;
-            said(answer, claimed.map)
-        }
-        Field::Free { start, n } => {
-            let freed = map.free(start, n);
-            let answer = freed.answer;
-            said(answer, freed.map)
-        }
+        Field::Take { n, a } => said(map.take(n, a)),
+        Field::Claim { start, n } => said(map.claim(start, n)),
+        Field::Free { start, n } => said(map.free(start, n)),
         Field::Skip => Step {
             line: Line::Skipped,
             map,
@@ -145,11 +127,11 @@ fn carried_out(map: Tree, field: Field) -> Step
 }
 
 // The line of a call, and the map that it left.
-fn said(answer: Answer, map: Tree) -> Step
-    ensures { SaidSays answer map result }
+fn said(changed: Changed<Refusal, Tree>) -> Step
+    ensures { SaidSays changed result }
 {
     Step {
-        line: Line::Said(answer),
-        map,
+        line: Line::Said(changed.answer),
+        map: changed.map,
     }
 }

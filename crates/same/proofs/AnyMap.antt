@@ -2,7 +2,7 @@
 use Rattle.std.specs.Prelude.{◌≡◌, ◌+◌, ◌^◌, ◌<◌}
 use Rattle.std.proofs.Common.{◌∙◌}
 use Rattle.answers.specs.Said.{Said}
-use Rattle.answers.specs.Answers.{Reply}
+use Rattle.answers.specs.declared.Reply.{Reply}
 use Rattle.slots.specs.Sets.{Slots}
 use Rattle.slots.specs.Kinds.{plain}
 use Rattle.slots.specs.View.{View}

@@ -1,7 +1,7 @@
 -- What stood in specs/Calls and rests on theorems there: moved, its statements unchanged. Rests on `Calls`.
 use Rattle.std.specs.Prelude.{◌≡◌, ◌⊎◌, ℕ, ◌+◌, ◌^◌, ◌<◌, eqb}
 use Rattle.std.proofs.Common.{inl, inr, pos_of_ne-zero, eqb-true}
-use Rattle.std.proofs.Math.Option.{Option, some}
+use Rattle.std.proofs.Math.Option.{Option}
 use Rattle.std.proofs.lemmas.Bool.{eqb-false}
 use Rattle.answers.specs.Said.{refused, judged}
 use Rattle.bits.specs.Range.{either}

@@ -9,7 +9,7 @@ use Prim.Native.Nat.{ℕ, ◌+◌, ◌-◌, ◌^◌, ◌≤◌, ◌<◌}
 use native.Mathlib.Omega.{arith}
 use borrow.Author.Tests.{leb-true, leb-false, ltb-true, ltb-false, lt-leb, le-leb, lt-ltb, ne_eqb}
 use Rattle.answers.specs.Said.{value, refused, judged}
-use Rattle.answers.specs.Answers.{at}
+use Rattle.answers.specs.declared.Reply.TheVariants.{At as at}
 use Rattle.bits.specs.Range.{either}
 use Rattle.slots.specs.Sets.{Slots, painted}
 use Rattle.slots.specs.Lowest.{LowestFit, NoStart}

@@ -6,7 +6,9 @@ use Rattle.std.proofs.Common.{arith}
 use Rattle.std.specs.Int.Count.{count_leading_zeros}
 use Rattle.bits.specs.Digits.{digit}
 use Rattle.slots.specs.Promises.{Past}
-use Rattle.word.specs.declared.Changed.{Changed}
+use Rattle.answers.specs.declared.Changed.{Changed}
+use Rattle.answers.specs.declared.Refusal.{Refusal}
+use Rattle.word.specs.declared.Word.{Word}
 use Rattle.word.specs.Layout.{IsWord, word_view, is_word_means}
 use Rattle.word.specs.Says.{FreeSays, SetSays}
 use Rattle.word.specs.Demands.{answer_of}
@@ -26,18 +28,18 @@ seen_64 : Seen word_view (λ x. digit x.bits) (λ x. x.bits < 2 ^ 64) ours
 seen_64 = record { is_sound_lem = λ w fits. tt; is_map = λ w fits. (is_word_means (ours w)).1 fits; alike = λ w fits i l. refl }
 
 module _ (w : Bitmap64) (held : IsWord (ours w)) where
-  pub word_same : SameCalls word_view Allocator64 ours Changed answer_of (λ r. r.map) w
+  pub word_same : SameCalls word_view Allocator64 ours (Changed Refusal Word) answer_of (λ r. r.map) w
   unfolding count_leading_zeros
   word_same =
-      same_calls word_view Allocator64 (λ x. digit x.bits) (λ x. x.bits < 2 ^ 64) word_acts ours seen_64 (omega arith) refl (omega arith) Changed answer_of (λ r. r.map) w (fits w held)
+      same_calls word_view Allocator64 (λ x. digit x.bits) (λ x. x.bits < 2 ^ 64) word_acts ours seen_64 (omega arith) refl (omega arith) (Changed Refusal Word) answer_of (λ r. r.map) w (fits w held)
 
   -- so 4 is no departure here
-  pub set_same : (s n : ℕ) (v : Bool) (r : Changed) → SetSays (ours w) s n v r
+  pub set_same : (s n : ℕ) (v : Bool) (r : Changed Refusal Word) → SetSays (ours w) s n v r
       → Whenever (Allocator64.set_to w s n v) (λ after. SetDeparts n (ours w) (answer_of r, r.map) ⊎ SameChange (ours after) (answer_of r, r.map))
   set_same s n v r outcome = so (set64 w s n v) _ _ (both (set64 w s n v) _ _ (none_past w held s n v) (word_same.set_same s n v r outcome)) (λ after told.
       ⊎_elim (⊎_elim (λ none. inl none) (λ far. absurd (not_past s n told.0 far.0))) (λ same. inr same) told.1)
 
-  pub free_same : (s n : ℕ) (r : Changed) → FreeSays (ours w) s n r
+  pub free_same : (s n : ℕ) (r : Changed Refusal Word) → FreeSays (ours w) s n r
       → Whenever (free Allocator64 w s n) (λ after. FreeDeparts s n (ours w) (answer_of r, r.map) ⊎ SameChange (ours after) (answer_of r, r.map))
   unfolding free
   free_same s n r outcome = so (set64 w s n false) _ _ (both (set64 w s n false) _ _ (none_past w held s n false) (word_same.free_same s n r outcome)) (λ after told.

@@ -4,18 +4,16 @@
 use Rattle.std.specs.Prelude.{◌≡◌, ◌⊎◌, Bool, ℕ, ◌+◌, ◌^◌, ◌≤◌, ◌<◌}
 use Rattle.std.proofs.Math.Option.{Option}
 use Rattle.answers.specs.Said.{Said, value}
-use Rattle.answers.specs.Answers.{Reply}
-use Rattle.slots.specs.Sets.{Slots, AllUsed}
+use Rattle.answers.specs.declared.Reply.{Reply}
+use Rattle.slots.specs.Sets.{AllUsed}
 use Rattle.slots.specs.Kinds.{plain}
 use Rattle.slots.specs.View.{View}
 use Rattle.slots.specs.Demands.{TakeSays, FreeSays, SetSays, NextFreeSays, GetSays, EmptySays, UsedSays}
-use Rattle.source.specs.Machine.{gives, ilog2}
+use Rattle.source.specs.Machine.{gives}
 use Rattle.source.specs.BitmapAllocator.{BitmapAllocator, alloc, free}
 use Rattle.same.specs.Whenever.{Whenever}
-use Rattle.same.specs.Acts.{Acts}
 use Rattle.same.specs.Same.{SameTake, SameChange, SameSlot}
 use Rattle.same.specs.Calls.{TakeDeparts, SetDeparts, FreeDeparts}
-use Rattle.same.specs.Seen.{Seen}
 
 -- an outcome of ours is a value of Out: what it says, and the map that it leaves
 module _ (L : View plain) {Self : Type 0} (B : BitmapAllocator Self) (ours : Self → L.Map) (Out : Type 0) (said : Out → Said Reply) (left : Out → L.Map) where

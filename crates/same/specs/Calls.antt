@@ -7,7 +7,8 @@ use Rattle.std.proofs.Math.Bool.{false}
 use Rattle.std.proofs.Math.Option.{Option, none, some}
 use Rattle.std.proofs.lemmas.Bool.{eqb-false}
 use Rattle.answers.specs.Said.{Said, value, refused, judged}
-use Rattle.answers.specs.Answers.{Reply, ok}
+use Rattle.answers.specs.declared.Reply.{Reply}
+use Rattle.answers.specs.declared.Reply.TheVariants.{Done as ok}
 use Rattle.bits.specs.Range.{either}
 use Rattle.slots.specs.Sets.{Slots, all_used, AllUsed, SomeFree, finds_all_used, finds_some_free}
 use Rattle.slots.specs.Calls.{says, past, set_call, free_call, next_free_call, get_call, empty_call, used_call}

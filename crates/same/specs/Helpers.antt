@@ -1,7 +1,7 @@
 -- Where the commit's helpers give an answer, ours is the same, save for the listed departures: 8 for an alignment that is no power of two, 10 for an
 -- interval out of order, 4 for a mask whose end is above 63; for every outcome that a contract allows. And where none holds and the numbers pass,
 -- they do give an answer. Rests on `Util`, on `rounding`, `spans` and the masks of `bits`.
-use Rattle.std.specs.Prelude.{◌≡◌, refl, ◌⊎◌, Bool, true, false, ◌&&◌, ◌||◌, List, ◌∷◌, ℕ, ◌+◌, ◌-◌, ◌*◌, ◌/◌, ◌%◌, ◌^◌, ◌≤◌, ◌<◌, min, max, leb, ltb}
+use Rattle.std.specs.Prelude.{◌≡◌, refl, ◌⊎◌, Bool, true, false, ◌&&◌, ◌||◌, List, ◌∷◌, ℕ, ◌+◌, ◌-◌, ◌*◌, ◌/◌, ◌%◌, ◌^◌, ◌≤◌, ◌<◌, min, max, leb, ltb, Result}
 use Rattle.std.proofs.Common.{sym, ap₂, ◌∙◌, ⊎_elim, mod-lt, one-mul, mod-eq_of_lt, arith, leb→le, le→leb, ltb→lt, lt→ltb, pow_pos}
 use Rattle.std.proofs.Math.Path.{ap}
 use Rattle.std.proofs.Math.Logic.{inl, inr}
@@ -13,17 +13,14 @@ use Rattle.std.proofs.Math.Dec.{eqb}
 use Rattle.std.proofs.Math.Pow.{pow-lt, shr_mod}
 use borrow.Author.Tests.{leb-true, leb-false, ltb-true, ltb-false, lt-leb, le-ltb, lt-ltb}
 use Rattle.answers.specs.Said.{Said, value, refused, Check, ◌when◌, judged, judged_found, judged_passed, judged_next}
-use Rattle.answers.specs.Answers.{number_says, narrow_number_says, truth_says}
-use Rattle.answers.specs.declared.Number.{Number}
-use Rattle.answers.specs.declared.NarrowNumber.{NarrowNumber}
-use Rattle.answers.specs.declared.Truth.{Truth}
+use Rattle.answers.specs.Answers.{answer_says}
+use Rattle.answers.specs.declared.Refusal.{Refusal}
 use Rattle.bits.specs.Range.{either, same_test}
 use Rattle.bits.proofs.Digits.{number_is, shifted_digit, low_mask_digit}
 use Rattle.bits.specs.Masks.{one_bit, places, mask_between, OneBitSays, MaskSays}
 use Rattle.rounding.specs.Powers.{PowerOfTwo, is_power, power_found, power_exponent}
 use Rattle.rounding.specs.Multiples.{down, up, up_near, aligned_up, aligned_down, aligned}
-use Rattle.rounding.specs.Narrow as Narrow
-use Rattle.rounding.specs.Wide as Wide
+use Rattle.rounding.specs.Widths.{AlignUpSays, AlignDownSays, IsAlignedSays, align_up_says, align_down_says}
 use Rattle.rounding.specs.Pages.{page_up, pages, page_offset, PageAlignUpSays, RoundToPagesSays, PageOffsetSays, pages_end}
 use Rattle.rounding.proofs.PagesLemmas.{page_align_up_faults}
 use Rattle.spans.specs.Overlap.{meet, overlaps, OverlapSays}
@@ -66,20 +63,20 @@ module _ (w a : ℕ) (held : a < 2 ^ w) where
   some_power (x, is) = rw is (pow_pos x)
 
   module _ (v : ℕ) (said : Said ℕ) where
-    pub align_down_same : v < 2 ^ w → said ≡ aligned_down w v a → Whenever (align_down w v a) (λ r. Refuses 8 (NoPower a) said ⊎ (said ≡ value r))
+    pub align_down_said : v < 2 ^ w → said ≡ aligned_down w v a → Whenever (align_down w v a) (λ r. Refuses 8 (NoPower a) said ⊎ (said ≡ value r))
     unfolding align_down aligned_down down
-    align_down_same fits outcome = rw outcome (difference_then _ _ a 1 (λ _.
+    align_down_said fits outcome = rw outcome (difference_then _ _ a 1 (λ _.
         powered (λ departs e. inl (departs, judged_found 8 (not (is_power w a)) (v / a * a) (ap not e)))
         (λ x small is e. inr (judged_passed 8 (not (is_power w a)) (v / a * a) (ap not e) ∙ ap value (rw is (sym (low_cleared w x v (omega arith) fits)))))))
 
     pub align_down_is : v < 2 ^ w → said ≡ aligned_down w v a → PowerOfTwo a → (r : ℕ) × (align_down w v a ≡ gives r) × (said ≡ value r)
     unfolding align_down
     align_down_is fits outcome power =
-        undeparted 8 (NoPower a) (align_down w v a) said (difference_answers _ a 1 (some_power power) tt) (align_down_same fits outcome) (λ departs. departs power)
+        undeparted 8 (NoPower a) (align_down w v a) said (difference_answers _ a 1 (some_power power) tt) (align_down_said fits outcome) (λ departs. departs power)
 
-    pub align_up_same : said ≡ aligned_up w v a → Whenever (align_up w v a) (λ r. Refuses 8 (NoPower a) said ⊎ (said ≡ value r))
+    pub align_up_said : said ≡ aligned_up w v a → Whenever (align_up w v a) (λ r. Refuses 8 (NoPower a) said ⊎ (said ≡ value r))
     unfolding align_up aligned_up up down
-    align_up_same outcome = rw outcome (difference_then _ _ a 1 (λ _. then (added w v (a - 1)) _ _ (tested (ltb (v + (a - 1)) (2 ^ w)) _ _ _ (λ inside.
+    align_up_said outcome = rw outcome (difference_then _ _ a 1 (λ _. then (added w v (a - 1)) _ _ (tested (ltb (v + (a - 1)) (2 ^ w)) _ _ _ (λ inside.
         let fits : v + (a - 1) < 2 ^ w = ltb-true (v + (a - 1)) (2 ^ w) inside in
         powered (λ departs e. inl (departs, refused_first 8 (not (is_power w a)) _ _ (ap not e))) (λ x small is e.
         inr (judged_next 8 (not (is_power w a)) _ _ (ap not e)
@@ -95,11 +92,11 @@ module _ (w a : ℕ) (held : a < 2 ^ w) where
 
     pub align_up_is : said ≡ aligned_up w v a → PowerOfTwo a → v + (a - 1) < 2 ^ w → (r : ℕ) × (align_up w v a ≡ gives r) × (said ≡ value r)
     align_up_is outcome power fits =
-        undeparted 8 (NoPower a) (align_up w v a) said (align_up_answers (some_power power) fits) (align_up_same outcome) (λ departs. departs power)
+        undeparted 8 (NoPower a) (align_up w v a) said (align_up_answers (some_power power) fits) (align_up_said outcome) (λ departs. departs power)
 
-  pub is_aligned_same : (v : ℕ) (said : Said Bool) → said ≡ aligned w v a → Whenever (is_aligned v a) (λ b. Refuses 8 (NoPower a) said ⊎ (said ≡ value b))
+  pub is_aligned_said : (v : ℕ) (said : Said Bool) → said ≡ aligned w v a → Whenever (is_aligned v a) (λ b. Refuses 8 (NoPower a) said ⊎ (said ≡ value b))
   unfolding is_aligned aligned
-  is_aligned_same v said outcome = rw outcome (difference_then _ _ a 1 (λ _.
+  is_aligned_said v said outcome = rw outcome (difference_then _ _ a 1 (λ _.
       powered (λ departs e. inl (departs, judged_found 8 (not (is_power w a)) (eqb (v % a) 0) (ap not e)))
       (λ x small is e.
       inr (judged_passed 8 (not (is_power w a)) (eqb (v % a) 0) (ap not e) ∙ ap value (rw is (ap (λ (n : ℕ). eqb n 0) (sym (and_mask v x))))))))
@@ -107,33 +104,19 @@ module _ (w a : ℕ) (held : a < 2 ^ w) where
   pub is_aligned_is : (v : ℕ) (said : Said Bool) → said ≡ aligned w v a → PowerOfTwo a → (b : Bool) × (is_aligned v a ≡ gives b) × (said ≡ value b)
   unfolding is_aligned
   is_aligned_is v said outcome power =
-      undeparted 8 (NoPower a) (is_aligned v a) said (difference_answers _ a 1 (some_power power) tt) (is_aligned_same v said outcome) (λ departs. departs power)
+      undeparted 8 (NoPower a) (is_aligned v a) said (difference_answers _ a 1 (some_power power) tt) (is_aligned_said v said outcome) (λ departs. departs power)
 
--- ---- by our contracts, at both widths
+-- ---- by our contracts, at any width, 32 and 64 among them
 
-pub align_up_32_same : (v a : ℕ) → a < 2 ^ 32 → (r : NarrowNumber) → Narrow.AlignUpSays v a r
-    → Whenever (align_up 32 v a) (λ x. Refuses 8 (NoPower a) (narrow_number_says r) ⊎ (narrow_number_says r ≡ value x))
-align_up_32_same v a held r outcome = align_up_same 32 a held v (narrow_number_says r) outcome
+module _ (w v a : ℕ) (held : a < 2 ^ w) where
+  pub align_up_same : (r : Result ℕ Refusal) → AlignUpSays w (λ n. n) v a r → Whenever (align_up w v a) (λ x. Refuses 8 (NoPower a) (answer_says r) ⊎ (answer_says r ≡ value x))
+  align_up_same r outcome = align_up_said w a held v (answer_says r) (align_up_says w v a r outcome)
 
-pub align_down_32_same : (v a : ℕ) → v < 2 ^ 32 → a < 2 ^ 32 → (r : NarrowNumber) → Narrow.AlignDownSays v a r
-    → Whenever (align_down 32 v a) (λ x. Refuses 8 (NoPower a) (narrow_number_says r) ⊎ (narrow_number_says r ≡ value x))
-align_down_32_same v a fits held r outcome = align_down_same 32 a held v (narrow_number_says r) fits outcome
+  pub align_down_same : v < 2 ^ w → (r : Result ℕ Refusal) → AlignDownSays w (λ n. n) v a r → Whenever (align_down w v a) (λ x. Refuses 8 (NoPower a) (answer_says r) ⊎ (answer_says r ≡ value x))
+  align_down_same fits r outcome = align_down_said w a held v (answer_says r) fits (align_down_says w v a r outcome)
 
-pub is_aligned_32_same : (v a : ℕ) → a < 2 ^ 32 → (r : Truth) → Narrow.IsAlignedSays v a r
-    → Whenever (is_aligned v a) (λ b. Refuses 8 (NoPower a) (truth_says r) ⊎ (truth_says r ≡ value b))
-is_aligned_32_same v a held r outcome = is_aligned_same 32 a held v (truth_says r) outcome
-
-pub align_up_64_same : (v a : ℕ) → a < 2 ^ 64 → (r : Number) → Wide.AlignUpSays v a r
-    → Whenever (align_up 64 v a) (λ x. Refuses 8 (NoPower a) (number_says r) ⊎ (number_says r ≡ value x))
-align_up_64_same v a held r outcome = align_up_same 64 a held v (number_says r) outcome
-
-pub align_down_64_same : (v a : ℕ) → v < 2 ^ 64 → a < 2 ^ 64 → (r : Number) → Wide.AlignDownSays v a r
-    → Whenever (align_down 64 v a) (λ x. Refuses 8 (NoPower a) (number_says r) ⊎ (number_says r ≡ value x))
-align_down_64_same v a fits held r outcome = align_down_same 64 a held v (number_says r) fits outcome
-
-pub is_aligned_64_same : (v a : ℕ) → a < 2 ^ 64 → (r : Truth) → Wide.IsAlignedSays v a r
-    → Whenever (is_aligned v a) (λ b. Refuses 8 (NoPower a) (truth_says r) ⊎ (truth_says r ≡ value b))
-is_aligned_64_same v a held r outcome = is_aligned_same 64 a held v (truth_says r) outcome
+  pub is_aligned_same : (r : Result Bool Refusal) → IsAlignedSays w (λ n. n) v a r → Whenever (is_aligned v a) (λ b. Refuses 8 (NoPower a) (answer_says r) ⊎ (answer_says r ≡ value b))
+  is_aligned_same r outcome = is_aligned_said w a held v (answer_says r) outcome
 
 -- ---- pages of 4,096
 
@@ -142,15 +125,15 @@ page_power = (12, refl)
 
 page_up_same : (x : ℕ) → Whenever (page_align_up x) (λ end. page_up x ≡ value end)
 unfolding page_align_up page_up
-page_up_same x = so (align_up 64 x 4096) _ _ (align_up_same 64 4096 (omega arith) x (page_up x) refl)
+page_up_same x = so (align_up 64 x 4096) _ _ (align_up_said 64 4096 (omega arith) x (page_up x) refl)
     (λ end. ⊎_elim (λ departs. absurd (departs.0 page_power)) (λ said. said))
 
-pub page_align_up_same : (x : ℕ) (r : Number) → PageAlignUpSays x r → Whenever (page_align_up x) (λ end. number_says r ≡ value end)
+pub page_align_up_same : (x : ℕ) (r : Result ℕ Refusal) → PageAlignUpSays x r → Whenever (page_align_up x) (λ end. answer_says r ≡ value end)
 page_align_up_same x r outcome = rw outcome (page_up_same x)
 
-pub page_align_up_is : (x : ℕ) (r : Number) → PageAlignUpSays x r → x + 4095 < 2 ^ 64 → (end : ℕ) × (page_align_up x ≡ gives end) × (number_says r ≡ value end)
+pub page_align_up_is : (x : ℕ) (r : Result ℕ Refusal) → PageAlignUpSays x r → x + 4095 < 2 ^ 64 → (end : ℕ) × (page_align_up x ≡ gives end) × (answer_says r ≡ value end)
 unfolding page_align_up page_up
-page_align_up_is x r outcome fits = align_up_is 64 4096 (omega arith) x (number_says r) outcome page_power fits
+page_align_up_is x r outcome fits = align_up_is 64 4096 (omega arith) x (answer_says r) outcome page_power fits
 
 -- where an end is given, it is as many pages up as we count
 counted : (x end : ℕ) → page_up x ≡ value end → pages x ≡ end / 4096
@@ -180,7 +163,7 @@ page_offset_same x r outcome = ap gives (and_mask x 12 ∙ sym outcome)
 -- ---- overlap
 
 -- it always answers
-pub overlap_same : (a b c d : ℕ) (r : Truth) → OverlapSays a b c d r → Refuses 10 ((b < a) ⊎ (d < c)) (truth_says r) ⊎ (truth_says r ≡ value (overlap a b c d))
+pub overlap_same : (a b c d : ℕ) (r : Result Bool Refusal) → OverlapSays a b c d r → Refuses 10 ((b < a) ⊎ (d < c)) (answer_says r) ⊎ (answer_says r ≡ value (overlap a b c d))
 unfolding overlap overlaps meet
 overlap_same a b c d r outcome = rw outcome (
     either (ltb b a) (λ e. inl (inl (ltb-true b a e), judged_found 10 (ltb b a || ltb d c) _ (rw e))) (λ first.
@@ -197,7 +180,7 @@ overlap_same a b c d r outcome = rw outcome (
 
 -- ---- masks
 
-pub bit_same : (x : ℕ) (r : Number) → OneBitSays x r → Whenever (BIT x) (λ bit. number_says r ≡ value bit)
+pub bit_same : (x : ℕ) (r : Result ℕ Refusal) → OneBitSays x r → Whenever (BIT x) (λ bit. answer_says r ≡ value bit)
 unfolding BIT one_bit
 bit_same x r outcome = tested (ltb x 64) _ _ _
     (λ e. outcome ∙ (
@@ -205,7 +188,7 @@ bit_same x r outcome = tested (ltb x 64) _ _ _
     judged_passed 4 (ltb 63 x) (2 ^ x) (le-ltb 63 x (omega arith)) ∙ ap value (sym (ap (λ (n : ℕ). n % 2 ^ 64) (one-mul (2 ^ x)) ∙ mod-eq_of_lt (pow-lt l)))))
     (λ _. tt)
 
-pub bit_is : (x : ℕ) (r : Number) → OneBitSays x r → x < 64 → (bit : ℕ) × (BIT x ≡ gives bit) × (number_says r ≡ value bit)
+pub bit_is : (x : ℕ) (r : Result ℕ Refusal) → OneBitSays x r → x < 64 → (bit : ℕ) × (BIT x ≡ gives bit) × (answer_says r ≡ value bit)
 unfolding BIT
 bit_is x r outcome small = surely (BIT x) _ (answers_tested (ltb x 64) _ _ (λ _. tt) (λ past. absurd (omega (arith, ltb-false x 64 past)))) (bit_same x r outcome)
 
@@ -232,17 +215,17 @@ mask_drops s e =
         (λ t. lt→ltb (i - s) (e - s + 1) (omega (arith, leb→le i e t, leb-true s i from)))))
         (λ before. rw before)
 
-pub mask_same : (s e : ℕ) (r : Number) → MaskSays s e r → Whenever (BIT-MASK e s) (λ mask. Refuses 4 (63 < e) (number_says r) ⊎ (number_says r ≡ value mask))
+pub mask_same : (s e : ℕ) (r : Result ℕ Refusal) → MaskSays s e r → Whenever (BIT-MASK e s) (λ mask. Refuses 4 (63 < e) (answer_says r) ⊎ (answer_says r ≡ value mask))
 unfolding mask_between
 mask_same s e r outcome = rw outcome (so (BIT-MASK e s) _ _ (mask_drops s e) (λ mask told.
     either (ltb 63 e) (λ past. inl (ltb-true 63 e past, refused_first 4 (ltb 63 e) _ _ past)) (λ inside.
     inr (judged_next 4 (ltb 63 e) _ _ inside ∙ judged_passed 10 (ltb e s) _ (le-ltb e s told.0) ∙ ap value (sym told.1)))))
 
 -- all but the mask from 0 to 63, whose run of 64 ones is made by a shift that has no answer
-pub mask_is : (s e : ℕ) (r : Number) → MaskSays s e r → s ≤ e → e ≤ 63 → e - s < 63 → (mask : ℕ) × (BIT-MASK e s ≡ gives mask) × (number_says r ≡ value mask)
+pub mask_is : (s e : ℕ) (r : Result ℕ Refusal) → MaskSays s e r → s ≤ e → e ≤ 63 → e - s < 63 → (mask : ℕ) × (BIT-MASK e s ≡ gives mask) × (answer_says r ≡ value mask)
 unfolding BIT-MASK
 mask_is s e r outcome order inside short =
-    undeparted 4 (63 < e) (BIT-MASK e s) (number_says r)
+    undeparted 4 (63 < e) (BIT-MASK e s) (answer_says r)
     (difference_answers _ e s order (sum_answers _ (e - s) 1 (omega arith) (one_answers _ 64 (e - s + 1) (omega arith) (difference_answers _ (2 ^ (e - s + 1)) 1 (pow_pos (e - s + 1))
     (answers_tested (ltb s 64) _ _ (λ _. tt) (λ past. absurd (omega (arith, ltb-false s 64 past))))))))
     (mask_same s e r outcome) (λ past. omega (arith, past))

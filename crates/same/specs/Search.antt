@@ -11,7 +11,6 @@ use Rattle.std.specs.Int.Bits.{bit_and}
 use Rattle.std.proofs.lemmas.Nat.Bits.{and_high}
 use Rattle.std.proofs.Math.Pow.{pow-lt, shr_mod}
 use borrow.Author.Tests.{leb-true, leb-false, ltb-true, ltb-false, eqb-true, eqb-false, not-true, not-false}
-use Rattle.answers.specs.Answers.{at}
 use Rattle.bits.specs.Range.{either, count}
 use Rattle.slots.specs.Sets.{Slots, AllFree, all_free, painted}
 use Rattle.slots.specs.Lowest.{Fits, LowestFit, NoStart}

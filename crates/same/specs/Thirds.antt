@@ -193,13 +193,13 @@ known_by_trees m q hm hq same top = λ i. third_of (words i) (summaries i) (full
     alike fs gs f g each = ext_get_or 0 fs gs (f ∙ sym g) (λ i l. each i (rw f at l))
 
     summaries : m.summaries ≡ q.summaries
-    summaries = alike m.summaries q.summaries ((is_third_means m).0 hm).2 ((is_third_means q).0 hq).2 (λ i l. ap (λ (x : Tree). x.summary) (same i l))
+    summaries = alike m.summaries q.summaries ((is_third_means m).0 hm).2 ((is_third_means q).0 hq).2 (λ i l. ap (λ (x : Tree). x.stored.summary) (same i l))
 
     fulls : m.fulls ≡ q.fulls
-    fulls = alike m.fulls q.fulls ((is_third_means m).0 hm).4 ((is_third_means q).0 hq).4 (λ i l. ap (λ (x : Tree). x.full) (same i l))
+    fulls = alike m.fulls q.fulls ((is_third_means m).0 hm).4 ((is_third_means q).0 hq).4 (λ i l. ap (λ (x : Tree). x.stored.full) (same i l))
 
     counts : m.counts ≡ q.counts
-    counts = alike m.counts q.counts ((is_third_means m).0 hm).6 ((is_third_means q).0 hq).6 (λ i l. ap (λ (x : Tree). x.count) (same i l))
+    counts = alike m.counts q.counts ((is_third_means m).0 hm).6 ((is_third_means q).0 hq).6 (λ i l. ap (λ (x : Tree). x.stored.count) (same i l))
 
 abbrev pub theirs : Third → Bitmap16384
 theirs m = record { bits = m.summary; child = listed (λ i. Trees.theirs (tree_at m i)) 0 16 }

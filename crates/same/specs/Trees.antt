@@ -38,7 +38,7 @@ ours t = under (words_of t) t.bits
 
 -- and back
 abbrev pub theirs : Tree → Bitmap1024
-theirs t = record { bits = t.summary; child = map word t.words }
+theirs t = record { bits = t.stored.summary; child = map word t.words }
 
 words_back : (t : Tree) → words_of (theirs t) ≡ t.words
 words_back t = map-map (λ (x : Bitmap64). x.bits) word t.words ∙ map-id t.words
@@ -48,16 +48,16 @@ pub under_is_tree : (words : List ℕ) (summary : ℕ) → AreWords 4 words → 
 unfolding marks_of
 under_is_tree words summary held fits = (is_tree_means (under words summary)).1 (held.so_many, held.each_fits, fits, number_lt (passes_at all_ones words) 16, count_fits words)
 
-pub theirs_is_tree : (t : Tree) → AreWords 4 t.words → t.summary < 2 ^ 16 → IsTree (ours (theirs t))
-theirs_is_tree t held fits = subst IsTree (ap (λ (words : List ℕ). under words t.summary) (sym (words_back t))) (under_is_tree t.words t.summary held fits)
+pub theirs_is_tree : (t : Tree) → AreWords 4 t.words → t.stored.summary < 2 ^ 16 → IsTree (ours (theirs t))
+theirs_is_tree t held fits = subst IsTree (ap (λ (words : List ℕ). under words t.stored.summary) (sym (words_back t))) (under_is_tree t.words t.stored.summary held fits)
 
 -- every sound tree of ours is one of these
 pub ours_theirs : (t : Tree) → IsTree t → Sound t → ours (theirs t) ≡ t
 ours_theirs t held sound =
     let h = (is_tree_means t).0 held in
     let right = (sound_by_stored t h.2 h.3).0 sound in
-    ap (λ (words : List ℕ). under words t.summary) (words_back t)
-    ∙ (λ i. tree_of t.words (stored_of t.summary (sym right i).full (sym right i).count))
+    ap (λ (words : List ℕ). under words t.stored.summary) (words_back t)
+    ∙ (λ i. tree_of t.words (stored_of t.stored.summary (sym right i).full (sym right i).count))
 
 pub theirs_ours : (t : Bitmap1024) → theirs (ours t) ≡ t
 theirs_ours t = λ i. record { bits = t.bits; child = (map-map word (λ (x : Bitmap64). x.bits) t.child ∙ map-id t.child) i }

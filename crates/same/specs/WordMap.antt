@@ -3,7 +3,7 @@
 use Rattle.std.specs.Prelude.{◌≡◌, ◌⊎◌, Bool, ℕ, ◌+◌, ◌^◌, ◌≤◌, ◌<◌}
 use Rattle.bits.specs.Digits.{number}
 use Rattle.answers.specs.Said.{Said}
-use Rattle.answers.specs.Answers.{Reply}
+use Rattle.answers.specs.declared.Reply.{Reply}
 use Rattle.slots.specs.Sets.{SomeFree}
 use Rattle.slots.specs.Calls.{capacity}
 use Rattle.views.specs.Words.{listed}

@@ -8,7 +8,6 @@
 
 ghost use Rattle.std.specs.Prelude.{◌≤◌, length, IfOk};
 
-use answers::Number;
 use std::io;
 use std::io::{ErrorKind, Read};
 use tree::Tree;
@@ -17,43 +16,40 @@ use tree::Tree;
 const READ_MOST: usize = 32769;
 
 fn main(rt: HostRuntime) -> io::Result<()> {
-    let mut record = [0u8; READ_MOST];
-    let mut input = rt.stdin();
-    match read_record(&mut input, &mut record) {
-        Ok(count) => match show(&rt, &record[..count]) {
-            Ok(()) => Ok(()),
-            Err(why) => eprintln!(rt; "slotgaps: standard output: {why}"),
-        },
-        Err(why) => eprintln!(rt; "slotgaps: standard input: {why}"),
+    let mut record = [0; READ_MOST];
+    let count = match read_record(&mut rt.stdin(), &mut record) {
+        Ok(count) => count,
+        Err(why) => return eprintln!(rt; "slotgaps: standard input: {why}"),
+    };
+    match show(&rt, &record[..count]) {
+        Ok(()) => Ok(()),
+        Err(why) => eprintln!(rt; "slotgaps: standard output: {why}"),
     }
 }
 
 // Writes the report, and then the lines of the map that is left.
 fn show(rt: &impl Print, record: &[u8]) -> io::Result<()> {
-    let mut report = [0u8; 54624];
+    let mut report = [0; 54624];
     let ran = runner::run_map(record, &mut report);
-    let map = ran.map;
-    let answer = ran.answer;
-    let Number::Is(length) = answer else {
+    let Ok(length) = ran.answer else {
         return rt.write_all(b"big\n");
     };
-    let end = length as usize;
-    rt.write_all(&report[..end])?;
-    show_map(rt, map)
+    rt.write_all(&report[..length as usize])?;
+    show_map(rt, ran.map)
 }
 
 // The map is sound, so its lines are not refused.
 fn show_map(rt: &impl Print, map: Tree) -> io::Result<()> {
-    let mut lines = [0u8; 20480];
-    let written = gap_report::write(map, &mut lines);
-    let Number::Is(length) = written else {
+    let mut lines = [0; 20480];
+    let Ok(length) = gap_report::write(map, &mut lines) else {
         return Err(ErrorKind::Other.into());
     };
-    let end = length as usize;
-    rt.write_all(&lines[..end])
+    rt.write_all(&lines[..length as usize])
 }
 
-// Reads until the input ends, the record is full or a read fails, however many pieces come.
+// Reads until the input ends, the record is full or a read fails, however many pieces come: a `while`, since a
+// read says how many bytes came. `slotmap` has the same: a library's function states one answer, and what a read
+// gives no contract can say.
 fn read_record(input: &mut impl Read, record: &mut [u8]) -> io::Result<usize>
     ensures { IfOk result (λ count. count ≤ length «record».old) }
 {

@@ -13,22 +13,22 @@ use std::io::Read;
 const READ_MOST: usize = 32769;
 
 fn main(rt: HostRuntime) -> io::Result<()> {
-    let mut record = [0u8; READ_MOST];
-    let mut input = rt.stdin();
-    match read_record(&mut input, &mut record) {
-        Ok(count) => {
-            let mut text = [0u8; 54624];
-            let length = runner::output(&record[..count], &mut text);
-            match rt.write_all(&text[..length]) {
-                Ok(()) => Ok(()),
-                Err(why) => eprintln!(rt; "slotmap: standard output: {why}"),
-            }
-        }
-        Err(why) => eprintln!(rt; "slotmap: standard input: {why}"),
+    let mut record = [0; READ_MOST];
+    let count = match read_record(&mut rt.stdin(), &mut record) {
+        Ok(count) => count,
+        Err(why) => return eprintln!(rt; "slotmap: standard input: {why}"),
+    };
+    let mut text = [0; 54624];
+    let length = runner::output(&record[..count], &mut text);
+    match rt.write_all(&text[..length]) {
+        Ok(()) => Ok(()),
+        Err(why) => eprintln!(rt; "slotmap: standard output: {why}"),
     }
 }
 
-// Reads until the input ends, the record is full or a read fails, however many pieces come.
+// Reads until the input ends, the record is full or a read fails, however many pieces come: a `while`, since a
+// read says how many bytes came. `slotgaps` has the same: a library's function states one answer, and what a read
+// gives no contract can say.
 fn read_record(input: &mut impl Read, record: &mut [u8]) -> io::Result<usize>
     ensures { IfOk result (λ count. count ≤ length «record».old) }
 {

@@ -3,7 +3,7 @@ use Rattle.std.specs.Prelude.{◌≡◌, refl, List, [], ◌∷◌, ℕ}
 use Rattle.std.proofs.Common.{sym, ap, ap₂, ◌∙◌, arith}
 use Rattle.std.proofs.Math.Path.{subst}
 use Rattle.answers.specs.Said.{Said, value, refused}
-use Rattle.answers.specs.Answers.{Reply}
+use Rattle.answers.specs.declared.Reply.{Reply}
 use Rattle.slots.specs.Kinds.{plain, State}
 use Rattle.slots.specs.Calls.{Call, says, free_call}
 use Rattle.slots.proofs.Promises.{free_promise}

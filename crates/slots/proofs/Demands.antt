@@ -4,7 +4,8 @@ use Rattle.std.proofs.Common.{sym, ap, ◌∙◌}
 use mathlib.Core.List.{List, ◌∷◌, map, Perm}
 use Rattle.answers.specs.Said.{Said, value}
 use Rattle.answers.specs.Faults.{Fault, FaultsDecide}
-use Rattle.answers.specs.Answers.{Reply, at, ok}
+use Rattle.answers.specs.declared.Reply.{Reply}
+use Rattle.answers.specs.declared.Reply.TheVariants.{At as at, Done as ok}
 use Rattle.slots.specs.Sets.{Slots, painted, painted_named, painted_other}
 use Rattle.slots.specs.Kinds.{plain}
 use Rattle.slots.specs.Calls.{Call, says, leaves, take_call, claim_call, free_call, set_call, next_free_call, get_call}

@@ -2,7 +2,8 @@
 use Rattle.std.specs.Prelude.{◌≡◌, ℕ, ◌^◌, ◌<◌}
 use Rattle.std.proofs.Common.{sym, ap, ◌∙◌, arith}
 use Rattle.answers.specs.Said.{Said, value}
-use Rattle.answers.specs.Answers.{Reply, at, ok}
+use Rattle.answers.specs.declared.Reply.{Reply}
+use Rattle.answers.specs.declared.Reply.TheVariants.{At as at, Done as ok}
 use Rattle.slots.specs.Kinds.{plain, State}
 use Rattle.slots.specs.Calls.{Call, says, take_call}
 use Rattle.slots.specs.Promises as Promises

@@ -4,7 +4,8 @@ use Rattle.std.proofs.Math.Path.{refl, sym}
 use Rattle.std.proofs.Common.{ap, ◌∙◌, true≢false, arith}
 use Rattle.std.proofs.Math.Bool.{true, false}
 use Rattle.answers.specs.Said.{Said, value}
-use Rattle.answers.specs.Answers.{Reply, at, ok}
+use Rattle.answers.specs.declared.Reply.{Reply}
+use Rattle.answers.specs.declared.Reply.TheVariants.{At as at, Done as ok}
 use Rattle.answers.specs.Faults.{◌if◌, FaultsDecide, finds_eq}
 use Rattle.bits.specs.Range.{either}
 use Rattle.slots.specs.Sets.{Slots, Named, all_used, finds_some_free, painted_named, painted_other}

@@ -4,7 +4,7 @@ use Rattle.std.proofs.Common.{◌∙◌}
 use mathlib.Core.List.Perm
 use mathlib.Core.List.{List, [], ◌∷◌, Perm}
 use Rattle.answers.specs.Said.{value, refused, judged, leaving}
-use Rattle.answers.specs.Answers.{at, ok}
+use Rattle.answers.specs.declared.Reply.TheVariants.{At as at, Done as ok}
 use Rattle.bits.specs.Range.{least, every, within}
 use Rattle.bits.specs.Digits.{digit, number}
 use Rattle.slots.specs.Sets.{all_free, all_used, painted, AllUsed}

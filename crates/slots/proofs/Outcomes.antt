@@ -1,40 +1,31 @@
--- What a call on a map has to show at each way out, over any view: check 1 in front, and then a judged call carried out. Assumes nothing.
+-- What a call on a map has to show at each way out, over any view: a judged call, carried out. Assumes nothing.
+use Rattle.std.specs.Prelude.{Result, Ok, Err}
 use mathlib.Core.Path.{◌≡◌, refl, sym, ap, ◌∙◌}
-use mathlib.Core.Bool.{Bool, true, false}
+use mathlib.Core.Bool.{Bool, true}
 use Prim.Native.Nat.{ℕ}
-use Rattle.answers.specs.Said.{value, refused}
+use Rattle.answers.specs.Said.{value}
 use Rattle.answers.specs.Refusals.{number_of}
-use Rattle.answers.specs.Answers.{Reply, at, ok, answer_says, left_by}
-use Rattle.answers.specs.declared.Answer.{Answer}
-use Rattle.answers.specs.declared.Answer.TheVariants.{At, Done, Refused}
+use Rattle.answers.specs.Answers.{answer_says, left_by}
+use Rattle.answers.specs.declared.Reply.{Reply}
+use Rattle.answers.specs.declared.Reply.TheVariants.{At as at}
+use Rattle.answers.specs.declared.Refusal.{Refusal}
 use Rattle.slots.specs.Sets.{Slots, painted}
 use Rattle.slots.specs.Kinds.{Kind, State, plain}
 use Rattle.slots.specs.Lowest.{Fits}
 use Rattle.slots.specs.Calls.{Call, says, take_call}
 use Rattle.slots.proofs.Promises.{take_promise, take_after}
-use Rattle.slots.specs.View.{View, answered, changed, accepted_sound, found_unsound, found_sound, says_refused, says_accepted}
-
--- ---- check 1, by the flag of a branch on `!flag`
-
-module _ {K : Kind} (L : View K) {X A : Type 0} (m : L.Map) (call : Call X A) where
-  module _ (flag : Bool) (told : flag ≡ L.is_sound m) where
-    pub shown_unsound : flag ≡ false → answered L m call ≡ refused 1
-    shown_unsound e = found_unsound L m call (sym told ∙ e)
-
-    pub shown_sound : flag ≡ true → answered L m call ≡ says call
-    shown_sound e = found_sound L m call (sym told ∙ e)
+use Rattle.slots.specs.View.{View, answered, changed, accepted_sound, found_sound, says_refused, says_accepted}
 
 -- ---- a judged call, carried out, is as its contract has it
 
 module _ {K : Kind} (L : View K) (m : L.Map) (call : Call (State K) Reply) (after : L.Map)
     (right : (reply : Reply) → answered L m call ≡ value reply → after ≡ L.of_state call.after) where
-  accepting : (judge : Answer) (reply : Reply) → answer_says judge ≡ value reply → value reply ≡ answered L m call → (answer_says judge, after) ≡ changed L m call
+  accepting : (judge : Result Reply Refusal) (reply : Reply) → answer_says judge ≡ value reply → value reply ≡ answered L m call → (answer_says judge, after) ≡ changed L m call
   accepting judge reply says told = (λ i. (says i, right reply (sym told) i)) ∙ sym (says_accepted L m call reply (sym told))
 
-  pub carried_out_lem : (judge : Answer) → answer_says judge ≡ answered L m call → (answer_says judge, left_by judge m after) ≡ changed L m call
-  carried_out_lem (At o) told = accepting (At o) (at o) refl told
-  carried_out_lem Done told = accepting Done ok refl told
-  carried_out_lem (Refused why) told = sym (says_refused L m call (number_of why) (sym told))
+  pub carried_out_lem : (judge : Result Reply Refusal) → answer_says judge ≡ answered L m call → (answer_says judge, left_by judge m after) ≡ changed L m call
+  carried_out_lem (Ok reply) told = accepting (Ok reply) reply refl told
+  carried_out_lem (Err why) told = sym (says_refused L m call (number_of why) (sym told))
 
 -- ---- a call that paints a run
 
@@ -56,7 +47,7 @@ module _ (L : View plain) (m : L.Map) where
   -- where the painted map is that of the painted set, as it is where the map is sound and the call has passed its checks
   pub carries : (call : Call Slots Reply) (s n : ℕ) (v : Bool) → call.after ≡ painted (L.state_of m) s n v
       → (after : L.Map) → (L.is_sound m ≡ true → (reply : Reply) → says call ≡ value reply → after ≡ L.of_state (painted (L.state_of m) s n v))
-      → (judge : Answer) → answer_says judge ≡ answered L m call → (left : L.Map) → left ≡ left_by judge m after → (answer_says judge, left) ≡ changed L m call
+      → (judge : Result Reply Refusal) → answer_says judge ≡ answered L m call → (left : L.Map) → left ≡ left_by judge m after → (answer_says judge, left) ≡ changed L m call
   carries call s n v paints after right judge told left e =
       ap (λ (map : L.Map). (answer_says judge, map)) e
       ∙ carried_out_lem L m call after (λ reply said.

@@ -2,7 +2,8 @@
 use Rattle.std.specs.Prelude.{◌≡◌, true, false, ℕ}
 use Rattle.std.proofs.Common.{sym, ap, subst, ◌∙◌}
 use Rattle.answers.specs.Said.{value}
-use Rattle.answers.specs.Answers.{Reply, at, ok}
+use Rattle.answers.specs.declared.Reply.{Reply}
+use Rattle.answers.specs.declared.Reply.TheVariants.{At as at, Done as ok}
 use Rattle.bits.specs.Range.{within_found, within_named}
 use Rattle.slots.specs.Sets.{Slots, painted, AllFree}
 use Rattle.slots.specs.Kinds.{plain, turned, turned_named, turned_painted}

@@ -5,7 +5,8 @@ use Rattle.std.proofs.Common.{sym, ◌∙◌, inl, inr, ⊎_elim, true≢false, 
 use Rattle.std.proofs.Math.Dec.{T}
 use Rattle.answers.specs.Said.{value, refused}
 use Rattle.answers.specs.Faults.{FaultsDecide, finds_lt, finds_le, finds_eq}
-use Rattle.answers.specs.Answers.{Reply, at, ok}
+use Rattle.answers.specs.declared.Reply.{Reply}
+use Rattle.answers.specs.declared.Reply.TheVariants.{At as at, Done as ok}
 use Rattle.bits.specs.Range.{either, le_of_not_lt}
 use Rattle.slots.specs.Sets.{Slots, painted, AllFree, AllUsed, SomeUsed, SomeFree, finds_some_used, finds_some_free}
 use Rattle.slots.specs.Lowest.{lowest, LowestFit, NoStart, lowest_unique}

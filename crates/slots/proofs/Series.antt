@@ -3,7 +3,8 @@ use Rattle.std.specs.Prelude.{◌≡◌, refl, ℕ}
 use Rattle.std.proofs.Common.{sym, ap, subst, ◌∙◌}
 use mathlib.Core.List.{List, [], ◌∷◌, ◌++◌, map, reverse, reverse-cons, map-append, Perm}
 use Rattle.answers.specs.Said.{Said, value, refused}
-use Rattle.answers.specs.Answers.{Reply, ok}
+use Rattle.answers.specs.declared.Reply.{Reply}
+use Rattle.answers.specs.declared.Reply.TheVariants.{Done as ok}
 use Rattle.slots.specs.Kinds.{Kind, State}
 use Rattle.slots.specs.Calls.{says}
 use Rattle.slots.specs.Records.{Entry, undo, after, Turns, AllTurn, finally, undo_restores, any_order}

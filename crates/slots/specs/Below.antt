@@ -2,7 +2,7 @@
 -- the grants and the recordings. Over any capacity, any map below and any types of outcomes. Rests on `JobDemands`.
 use Rattle.std.specs.Prelude.{true, false, List, [], ◌∷◌}
 use Rattle.answers.specs.Said.{Said, value, refused}
-use Rattle.answers.specs.Answers.{Reply}
+use Rattle.answers.specs.declared.Reply.{Reply}
 use Rattle.slots.specs.Kinds.{plain}
 use Rattle.slots.specs.View.{View}
 use Rattle.slots.specs.Records.{Entry}

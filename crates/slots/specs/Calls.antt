@@ -2,7 +2,8 @@
 -- finds a fault, and the set that it then leaves. A layout adds its own check, number 1, in front. Rests on `Lowest` and on `answers`.
 use Rattle.std.specs.Prelude.{Bool, true, false, not, ◌||◌, List, [], ◌∷◌, ◌++◌, ℕ, ◌-◌, ◌^◌, leb, ltb, eqb}
 use Rattle.answers.specs.Said.{Said, Check, ◌when◌, judged, leaving}
-use Rattle.answers.specs.Answers.{Reply, at, ok}
+use Rattle.answers.specs.declared.Reply.{Reply}
+use Rattle.answers.specs.declared.Reply.TheVariants.{At as at, Done as ok}
 use Rattle.bits.specs.Range.{count}
 use Rattle.slots.specs.Sets.{Slots, all_free, all_used, painted}
 use Rattle.slots.specs.Lowest.{lowest, free_from}

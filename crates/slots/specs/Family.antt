@@ -2,7 +2,8 @@
 -- down. Rests on `Records` and on `Calls`.
 use Rattle.std.specs.Prelude.{◌≡◌, ℕ}
 use Rattle.answers.specs.Said.{value}
-use Rattle.answers.specs.Answers.{Reply, ok}
+use Rattle.answers.specs.declared.Reply.{Reply}
+use Rattle.answers.specs.declared.Reply.TheVariants.{Done as ok}
 use Rattle.slots.specs.Promises.{InRange}
 use Rattle.slots.specs.Kinds.{Kind, State}
 use Rattle.slots.specs.Calls.{Call, says}

@@ -3,7 +3,8 @@
 use Rattle.std.specs.Prelude.{◌≡◌, ◌↔◌, Bool, false, List, [], ◌∷◌, ◌++◌, ℕ, ◌^◌, ◌≤◌, ◌<◌, T}
 use Rattle.answers.specs.Said.{Said, value, refused}
 use Rattle.answers.specs.Faults.{FaultsDecide}
-use Rattle.answers.specs.Answers.{Reply, at, ok}
+use Rattle.answers.specs.declared.Reply.{Reply}
+use Rattle.answers.specs.declared.Reply.TheVariants.{At as at, Done as ok}
 use Rattle.bits.specs.Range.{count}
 use Rattle.slots.specs.Sets.{Named}
 use Rattle.slots.specs.Kinds.{plain, State}

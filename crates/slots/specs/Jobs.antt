@@ -7,7 +7,8 @@ use Rattle.std.proofs.Math.Logic.{⊎_elim}
 use Rattle.std.proofs.Math.Bool.{true, false}
 use Rattle.std.proofs.lemmas.Bool.{false≢true}
 use Rattle.answers.specs.Said.{value, ◌when◌}
-use Rattle.answers.specs.Answers.{Reply, ok}
+use Rattle.answers.specs.declared.Reply.{Reply}
+use Rattle.answers.specs.declared.Reply.TheVariants.{Done as ok}
 use Rattle.answers.specs.Faults.{Fault, ◌if◌, finds_le}
 use Rattle.bits.specs.Range.{within, within_found}
 use Rattle.slots.specs.Sets.{Slots, Named, all_used, painted, painted_named, painted_other}

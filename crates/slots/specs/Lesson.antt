@@ -4,7 +4,8 @@ use Rattle.std.specs.Prelude.{◌≡◌, refl, Bool, true, false, ℕ, ◌^◌, 
 use Rattle.std.proofs.Common.{arith}
 use mathlib.Core.List.{List, [], ◌∷◌, Perm}
 use Rattle.answers.specs.Said.{Said, value, refused, judged, leaving}
-use Rattle.answers.specs.Answers.{Reply, at, ok}
+use Rattle.answers.specs.declared.Reply.{Reply}
+use Rattle.answers.specs.declared.Reply.TheVariants.{At as at, Done as ok}
 use Rattle.bits.specs.Range.{least, every, within}
 use Rattle.bits.specs.Digits.{digit, number, number_lt, number_digit}
 use Rattle.bits.proofs.Digits.{digit_number, past_digit}

@@ -4,7 +4,7 @@ use Rattle.std.specs.Prelude.{◌≡◌, List, [], ◌∷◌, ℕ}
 use Rattle.std.proofs.Common.{sym, ap, ◌∙◌}
 use Rattle.answers.specs.Said.{Said, value, refused}
 use Rattle.answers.specs.Faults.{Fault, ◌if◌, FaultsDecide}
-use Rattle.answers.specs.Answers.{Reply}
+use Rattle.answers.specs.declared.Reply.{Reply}
 use Rattle.slots.specs.Kinds.{Kind, State}
 use Rattle.slots.specs.Calls.{Call, says, leaves}
 use Rattle.slots.specs.Promises.{RefusedBy}

@@ -1,6 +1,7 @@
 -- Take, claim and free on sets of slots, as a family, each with its bridge. Rests on `Promises` and on `Family`.
 use Rattle.std.specs.Prelude.{◌≡◌, refl, Bool, true, false, ℕ}
-use Rattle.answers.specs.Answers.{Reply, at, ok}
+use Rattle.answers.specs.declared.Reply.{Reply}
+use Rattle.answers.specs.declared.Reply.TheVariants.{At as at, Done as ok}
 use Rattle.slots.specs.Sets.{Slots}
 use Rattle.slots.specs.Calls.{Call, take_call, claim_call, free_call}
 use Rattle.slots.specs.Records.{Entry}

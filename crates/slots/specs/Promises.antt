@@ -7,7 +7,8 @@ use Rattle.std.proofs.lemmas.Bool.{not-true, not-false}
 use Rattle.answers.specs.Said.{Said, value, refused, judged, leaving_says, leaving_refused, leaving_value, value_injective}
 use Rattle.answers.specs.Faults.{Fault, ◌if◌, Rising, Finds, FaultsDecide, finds_lt, finds_le, finds_either}
 use Rattle.answers.proofs.Faults.{faults_decide}
-use Rattle.answers.specs.Answers.{Reply, ok}
+use Rattle.answers.specs.declared.Reply.{Reply}
+use Rattle.answers.specs.declared.Reply.TheVariants.{Done as ok}
 use Rattle.bits.specs.Range.{least, count, same_test, least_from, least_passes, least_first, le_of_not_lt}
 use Rattle.slots.specs.Sets.{Slots, all_free, finds_all_free, painted, SomeUsed, SomeFree}
 use Rattle.slots.specs.Lowest.{free_from, free_from_inside, NoStart}

@@ -1,7 +1,8 @@
 -- Readings of document 01 that are easily got wrong, as rows that antt computes; those that hold for any map are over any map. Rests on `Calls` and on `Gaps`.
 use Rattle.std.specs.Prelude.{◌≡◌, refl, Bool, true, false, List, [], ◌∷◌, ℕ, ◌-◌, ◌%◌, ◌^◌, ltb, eqb}
 use Rattle.answers.specs.Said.{value, refused, judged}
-use Rattle.answers.specs.Answers.{at, run}
+use Rattle.answers.specs.Answers.{run}
+use Rattle.answers.specs.declared.Reply.TheVariants.{At as at}
 use Rattle.bits.specs.Range.{least, every}
 use Rattle.slots.specs.Sets.{Slots, none, all, all_free, all_used}
 use Rattle.slots.specs.Lowest.{fits_at, lowest}

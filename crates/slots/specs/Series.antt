@@ -5,7 +5,8 @@ use Rattle.std.proofs.Common.{sym, ap, ◌∙◌, arith, ltb-true, ltb-false}
 use Rattle.std.proofs.Math.Path.{fun_ext}
 use mathlib.Core.List.{List, [], ◌∷◌, map, reverse}
 use Rattle.answers.specs.Said.{Said, value, refused}
-use Rattle.answers.specs.Answers.{Reply, ok}
+use Rattle.answers.specs.declared.Reply.{Reply}
+use Rattle.answers.specs.declared.Reply.TheVariants.{Done as ok}
 use Rattle.bits.specs.Range.{either}
 use Rattle.slots.specs.Promises.{InRange}
 use Rattle.slots.specs.Kinds.{Kind, State, turned_other}

@@ -7,7 +7,7 @@ use native.Mathlib.Omega.{arith}
 use Rattle.std.proofs.Math.Pow.{pow-lt}
 use borrow.Author.Tests.{ne_eqb, le-ltb, lt-leb, le-leb}
 use Rattle.answers.specs.Said.{Said, value, refused, ◌when◌, judged, on_value, judged_found, judged_passed, judged_next, judged_on_value}
-use Rattle.answers.specs.Answers.{at}
+use Rattle.answers.specs.declared.Reply.TheVariants.{At as at}
 use Rattle.slots.specs.Sets.{Slots, all_free, AllFree, finds_all_free}
 use Rattle.slots.specs.Lowest.{lowest, free_from}
 use Rattle.slots.specs.Calls.{says, take_call, next_free_call}

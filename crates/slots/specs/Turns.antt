@@ -4,7 +4,7 @@
 use Rattle.std.specs.Prelude.{◌≡◌, ◌⊎◌, List, [], ◌∷◌, ◌++◌, ℕ, ◌^◌, ◌<◌}
 use Rattle.std.proofs.Common.{ap₂, inl, inr}
 use Rattle.answers.specs.Said.{Said, value, refused}
-use Rattle.answers.specs.Answers.{Reply}
+use Rattle.answers.specs.declared.Reply.{Reply}
 use Rattle.slots.specs.Sets.{Named}
 use Rattle.slots.specs.Kinds.{State}
 use Rattle.slots.specs.Calls.{Call}

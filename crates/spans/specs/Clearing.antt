@@ -1,16 +1,15 @@
 -- Clearing a part of a buffer in document 01's terms, what is left of each byte, and that its contract leaves one answer and one content. Rests
 -- on `answers`.
-use Rattle.std.specs.Prelude.{◌≡◌, refl, List, [], ◌∷◌, ◌++◌, ℕ, ◌-◌, ◌≤◌, ◌<◌, ltb, length, take, replicate}
+use Rattle.std.specs.Prelude.{◌≡◌, refl, List, [], ◌∷◌, ◌++◌, ℕ, ◌-◌, ◌≤◌, ◌<◌, ltb, length, take, replicate, Result}
 use Rattle.std.proofs.Common.{sym, ◌∙◌, arith}
 use Rattle.std.proofs.Math.Path.{ap}
 use Rattle.std.proofs.Math.ListN.{get_or, drop}
-use Rattle.answers.specs.Said.{Said, value, refused, ◌when◌, judged, leaving, leaving_says, leaving_refused}
+use Rattle.answers.specs.Said.{Said, refused, ◌when◌, judged, leaving, leaving_says, leaving_refused}
 use Rattle.answers.specs.Faults.{◌if◌, FaultsDecide, finds_lt}
 use Rattle.answers.proofs.Faults.{faults_decide}
-use Rattle.answers.specs.Refusals.{number_of, named_number, undone_injective}
-use Rattle.answers.specs.Answers.{saying}
-use Rattle.spans.specs.declared.Clearing.{Clearing}
-use Rattle.spans.specs.declared.Clearing.TheVariants.{Cleared, Refused}
+use Rattle.answers.specs.Answers.{answer_says}
+use Rattle.answers.proofs.Answers.{answer_says_injective}
+use Rattle.answers.specs.declared.Refusal.{Refusal}
 
 -- ---- what is answered, and what the buffer then holds
 
@@ -21,26 +20,15 @@ zeroed bytes s e = take s bytes ++ (replicate (e - s) 0 ++ drop e bytes)
 unfoldable pub cleared : List ℕ → ℕ → ℕ → Said Unit × List ℕ
 cleared bytes s e = leaving (judged ((4 when ltb (length bytes) e) ∷ (10 when ltb e s) ∷ []) tt) (λ _. zeroed bytes s e) bytes
 
-abbrev pub clearing_says : Clearing → Said Unit
-clearing_says Cleared = value tt
-clearing_says (Refused r) = refused (number_of r)
-
 -- ---- the contract
 
-abbrev pub ClearSays : List ℕ → ℕ → ℕ → Clearing → List ℕ → Type 0
-ClearSays before start end r after = (clearing_says r, after) ≡ cleared before start end
+abbrev pub ClearSays : List ℕ → ℕ → ℕ → Result Unit Refusal → List ℕ → Type 0
+ClearSays before start end r after = (answer_says r, after) ≡ cleared before start end
 
-clearing_back : (r : Clearing) → saying (λ _. Cleared) Refused (clearing_says r) ≡ r
-clearing_back Cleared = refl
-clearing_back (Refused r) = ap Refused (named_number r)
-
-pub clearing_says_injective : (r s : Clearing) → clearing_says r ≡ clearing_says s → r ≡ s
-clearing_says_injective = undone_injective clearing_says (saying (λ _. Cleared) Refused) clearing_back
-
-pub clear_one_answer : (before : List ℕ) (start end : ℕ) (r s : Clearing) (after other : List ℕ)
+pub clear_one_answer : (before : List ℕ) (start end : ℕ) (r s : Result Unit Refusal) (after other : List ℕ)
     → ClearSays before start end r after → ClearSays before start end s other → (r ≡ s) × (after ≡ other)
 clear_one_answer before start end r s after other p q =
-    (clearing_says_injective r s (ap (λ o. o.0) (p ∙ sym q)), ap (λ o. o.1) (p ∙ sym q))
+    (answer_says_injective r s (ap (λ o. o.0) (p ∙ sym q)), ap (λ o. o.1) (p ∙ sym q))
 
 -- ---- what it means
 

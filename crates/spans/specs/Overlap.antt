@@ -1,12 +1,12 @@
 -- Overlap of closed intervals in document 01's terms, what the answer means, and that its contract leaves one answer. Rests on `answers`.
-use Rattle.std.specs.Prelude.{◌≡◌, refl, ◌↔◌, ◌⊎◌, Bool, ◌||◌, [], ◌∷◌, ℕ, ◌≤◌, ◌<◌, min, max, T, leb, ltb}
+use Rattle.std.specs.Prelude.{◌≡◌, refl, ◌↔◌, ◌⊎◌, Bool, ◌||◌, [], ◌∷◌, ℕ, ◌≤◌, ◌<◌, min, max, T, leb, ltb, Result}
 use Rattle.std.proofs.Common.{sym, ◌∙◌, inl, inr, ⊎_elim, arith, leb→le, le→leb}
 use Rattle.answers.specs.Said.{Said, value, ◌when◌, judged}
 use Rattle.answers.specs.Faults.{◌if◌, FaultsDecide, finds_lt, finds_either}
 use Rattle.answers.proofs.Faults.{faults_decide}
-use Rattle.answers.specs.Answers.{truth_says}
-use Rattle.answers.proofs.Answers.{truth_says_injective}
-use Rattle.answers.specs.declared.Truth.{Truth}
+use Rattle.answers.specs.Answers.{answer_says}
+use Rattle.answers.proofs.Answers.{answer_says_injective}
+use Rattle.answers.specs.declared.Refusal.{Refusal}
 use Rattle.bits.specs.Range.{le_of_not_lt, same_test}
 
 -- of the intervals from a to b and from c to d: the later of the two first numbers is not past the earlier of the two last
@@ -18,11 +18,11 @@ overlaps a b c d = judged ((10 when (ltb b a || ltb d c)) ∷ []) (meet a b c d)
 
 -- ---- the contract
 
-abbrev pub OverlapSays : ℕ → ℕ → ℕ → ℕ → Truth → Type 0
-OverlapSays a b c d r = truth_says r ≡ overlaps a b c d
+abbrev pub OverlapSays : ℕ → ℕ → ℕ → ℕ → Result Bool Refusal → Type 0
+OverlapSays a b c d r = answer_says r ≡ overlaps a b c d
 
-pub overlap_one_answer : (a b c d : ℕ) (r s : Truth) → OverlapSays a b c d r → OverlapSays a b c d s → r ≡ s
-overlap_one_answer a b c d r s p q = truth_says_injective r s (p ∙ sym q)
+pub overlap_one_answer : (a b c d : ℕ) (r s : Result Bool Refusal) → OverlapSays a b c d r → OverlapSays a b c d s → r ≡ s
+overlap_one_answer a b c d r s p q = answer_says_injective r s (p ∙ sym q)
 
 -- ---- what the answer means
 

@@ -5,7 +5,8 @@
 ghost use Rattle.texts.specs.Texts.{PutSays, PutNumberSays};
 
 // Puts the words into the buffer from offset `at` on, and answers the offset after them. Where there is
-// no room for all of them the buffer stays as it is, and the answer is `at`.
+// no room for all of them the buffer stays as it is, and the answer is `at`. No `Option`: `PutSays` promises
+// an offset, from which the next text goes on.
 pub fn put(buffer: &mut [u8], at: usize, words: &[u8]) -> usize
     ensures { PutSays buffer.old at words.now result buffer.new }
 {

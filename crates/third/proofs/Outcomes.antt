@@ -1,19 +1,26 @@
 -- What a call on the third level has to show at each way out, from what was said. Assumes nothing.
-use mathlib.Core.Path.{◌≡◌, sym, ap, ◌∙◌}
+use mathlib.Core.Path.{◌≡◌, refl, sym, ap, ◌∙◌}
 use mathlib.Core.Bool.{Bool, true, false}
 use mathlib.Core.List.{List}
-use Prim.Native.Nat.{ℕ, ◌+◌, ◌*◌, ◌<◌}
+use Prim.Native.Nat.{ℕ, zero, suc, ◌+◌, ◌*◌, ◌≤◌, ◌<◌}
+use lib.ListN.{length, get_or, take}
+use Rattle.std.specs.Prelude.{◌↔◌, Ok}
+use Rattle.std.proofs.Common.{sum, true≢false}
+use Rattle.std.specs.List.{list_all, range_with_len}
+use Rattle.std.proofs.lemmas.List.{take_all}
+use Rattle.std.proofs.lemmas.List.Sums.{sum_by_more, AllPass-from_list_all, list_all-from_AllPass}
+use Rattle.std.proofs.lemmas.List.FromFn.{length-range_with_len, get_or-range_with_len}
 use native.Mathlib.Omega.{arith}
 use lib.Dec.{eqb, eqb→eq, eqb_refl}
 use Rattle.answers.specs.declared.Refusal.{Refusal}
-use Rattle.answers.specs.declared.Answer.TheVariants.{Refused}
-use Rattle.answers.proofs.Judging.{left_accepted}
-use Rattle.answers.specs.Answers.{Reply, answer_says, left_by}
-use Rattle.answers.specs.declared.Answer.{Answer}
+use Rattle.answers.specs.declared.Refusal.TheVariants.{Unsound}
+use Rattle.answers.specs.Said.{value, refused}
+use Rattle.answers.specs.Refusals.{number_of}
+use Rattle.answers.specs.declared.Reply.{Reply}
 use Rattle.bits.specs.Range.{bit, count, count_same, same_test}
 use Rattle.slots.specs.Sets.{Slots, all_free, painted}
-use Rattle.slots.specs.Calls.{Call}
-use Rattle.slots.specs.View.{answered, changed}
+use Rattle.slots.specs.Calls.{Call, says}
+use Rattle.slots.specs.View.{answered, changed, found_sound, found_unsound, says_refused}
 use Rattle.slots.proofs.Outcomes as AnyView
 use Rattle.views.specs.Painting.{slot_in, painted_words}
 use Rattle.views.specs.Words.{AreWords, words_of, made_words, slots_are, listed, listed_is, listed_agree, painted_are_words}
@@ -22,7 +29,7 @@ use Rattle.views.specs.Marks.{sixteen_fit, marks_of}
 use Rattle.views.specs.Summary.{summary_of}
 use Rattle.views.specs.Full.{full_of, filled}
 use Rattle.views.specs.Count.{count_of}
-use Rattle.views.specs.Trees.{all_fit, tree_words, tree_words_lem, each_of, renewed, sum_first}
+use Rattle.views.specs.Trees.{all_fit, tree_words, tree_words_lem, each_of, renewed, renewed_all, sum_first}
 use Rattle.views.proofs.Trees.{tree_slot, renewed_right, filled_by_marks, counts_sum}
 use Rattle.views.specs.Summaries.{summaries_of, top_of, top_tells}
 use Rattle.views.proofs.Summaries.{top_by_summaries}
@@ -30,23 +37,69 @@ use Rattle.tree.specs.declared.Stored.{Stored}
 use Rattle.tree.specs.Layout as Tree
 use Rattle.third.specs.declared.Third.{Third}
 use Rattle.third.specs.Layout.{third_of, under, holding, slot_of, tree_at, of_slots, third_view, IsThird, is_third_means, are_words, sound_means, sound_by_fields}
-use Rattle.third.specs.Inner.{painted_third}
+use Rattle.third.specs.Inner.{SoundSays, painted_third, renewed_third}
+
+-- ---- a refused call leaves the very map
+
+-- check 1, in front of each call
+pub check_refuses : {X A : Type 0} (t : Third) (call : Call X A) (why : Refusal) → (why ≡ Unsound) × SoundSays t false
+    → refused (number_of why) ≡ answered third_view t call
+check_refuses t call why found = ap (λ (w : Refusal). refused (number_of w)) found.0 ∙ sym (found_unsound third_view t call (sym found.1))
+
+-- and behind it
+pub check_passes : {X A : Type 0} (t : Third) (call : Call X A) → SoundSays t true → says call ≡ answered third_view t call
+check_passes t call sound = sym (found_sound third_view t call (sym sound))
+
+pub refuses : (t : Third) (call : Call Slots Reply) (why : Refusal) → refused (number_of why) ≡ answered third_view t call → (refused (number_of why), t) ≡ changed third_view t call
+refuses t call why told = sym (says_refused third_view t call (number_of why) (sym told))
+
+-- ---- sixteen fields
+
+-- their sum, from the first on
+sum_first_is : (fields : List ℕ) (i : ℕ) → i ≤ length fields → sum (take i fields) ≡ sum_first fields i
+unfolding sum_first
+sum_first_is fields zero l = refl
+sum_first_is fields (suc i) l =
+    let next : suc i ≡ i + 1 = omega arith in
+    ap (λ (k : ℕ). sum (take k fields)) next ∙ sum_by_more (λ x. x) fields i 0 (omega arith)
+    ∙ ap (λ (s : ℕ). s + get_or fields i 0) (sum_first_is fields i (omega arith))
+
+pub sum_is : (fields : List ℕ) → length fields ≡ 16 → sum fields ≡ sum_first fields 16
+sum_is fields many = ap sum (sym (take_all 16 fields (omega arith))) ∙ sum_first_is fields 16 (omega arith)
 
 -- ---- the trees and the summary over them tell whether a map is sound
 
+-- a test that each number below n passes
+all_below : (p : ℕ → Bool) (n : ℕ) → (list_all p (range_with_len 0 n) ≡ true) ↔ ((i : ℕ) → i < n → p i ≡ true)
+all_below p n = (
+  λ all i l. ap p (sym (at i 0 l)) ∙ AllPass-from_list_all p (range_with_len 0 n) all i 0 (rw (length-range_with_len 0 n) l),
+  λ each. list_all-from_AllPass p (range_with_len 0 n) (λ i d l. let below : i < n = rw (length-range_with_len 0 n) at l in ap p (at i d below) ∙ each i below),
+)
+  where
+    at : (i d : ℕ) → i < n → get_or (range_with_len 0 n) i d ≡ i
+    at i d l = get_or-range_with_len 0 n i d l ∙ omega arith
+
+abbrev pub tree_sound : Third → ℕ → Bool
+tree_sound t i = (Tree.tree_view).is_sound (tree_at t i)
+
+-- each of the sixteen trees is sound
+abbrev pub trees_sound : Third → Bool
+trees_sound t = list_all (tree_sound t) (range_with_len 0 16)
+
 module _ (t : Third) (held : IsThird t) where
   -- one tree that is not
-  pub unsound_at : (i : ℕ) → i < 16 → (Tree.tree_view).is_sound (tree_at t i) ≡ false → false ≡ third_view.is_sound t
-  unsound_at i l fails =
+  pub unsound_shown : trees_sound t ≡ false → false ≡ third_view.is_sound t
+  unsound_shown fails =
       same_test false (third_view.is_sound t) absurd
-      (λ sound. rw fails at (((Tree.tree_view).finds_sound (tree_at t i)).1 (((sound_means t).0 ((third_view.finds_sound t).0 sound)).0 i l)))
+      (λ sound. true≢false (sym ((all_below (tree_sound t) 16).1 (λ i l. same_test (tree_sound t i) true (λ _. tt) (λ _.
+      ((Tree.tree_view).finds_sound (tree_at t i)).1 (((sound_means t).0 ((third_view.finds_sound t).0 sound)).0 i l)))) ∙ fails))
 
   -- where each tree is, each has stored what is its words'
-  module _ (each : (i : ℕ) → i < 16 → (Tree.tree_view).is_sound (tree_at t i) ≡ true) where
-    stored_at : (i : ℕ) → i < 16 → Tree.stored_in (tree_at t i) ≡ Tree.theirs (tree_words t.words i)
+  module _ (all : trees_sound t ≡ true) where
+    stored_at : (i : ℕ) → i < 16 → (tree_at t i).stored ≡ Tree.theirs (tree_words t.words i)
     stored_at i l =
         let h = (is_third_means t).0 held in
-        (Tree.sound_by_stored (tree_at t i) (h.3 i l) (h.5 i l)).0 (((Tree.tree_view).finds_sound (tree_at t i)).0 (rw (each i l) tt))
+        (Tree.sound_by_stored (tree_at t i) (h.3 i l) (h.5 i l)).0 (((Tree.tree_view).finds_sound (tree_at t i)).0 (rw ((all_below (tree_sound t) 16).0 all i l) tt))
 
     summaries_are : t.summaries ≡ summaries_of t.words
     unfolding each_of
@@ -104,31 +157,21 @@ module _ (t : Third) (held : IsThird t) where
         anew : (made : List ℕ → ℕ) (fields : List ℕ) → fields ≡ each_of made t.words → renewed made left fields s n ≡ each_of made left
         anew made fields right = ap (λ (fs : List ℕ). renewed made left fs s n) right ∙ renewed_right made t.words words s n v
 
-  -- a judged call, carried out, is as its contract has it
+  -- an accepted call, carried out, is as its contract has it
   pub carries : (call : Call Slots Reply) (s n : ℕ) (v : Bool) → call.after ≡ painted (slot_of t) s n v
-      → (judge : Answer) → answer_says judge ≡ answered third_view t call → (left : Third) → left ≡ left_by judge t (painted_third t s n v)
-      → (answer_says judge, left) ≡ changed third_view t call
-  carries call s n v after = AnyView.carries third_view t call s n v after (painted_third t s n v) (λ sound reply said. painted_third_lem sound s n v)
-
--- ---- the map that is left
-
-pub left_as_judged : (judge : Answer) → ((why : Refusal) → judge ≡ Refused why → ⊥) → (t : Third) (s n : ℕ) (v : Bool) (left summaries fulls counts : List ℕ) (over : ℕ)
-    → left ≡ painted_words t.words s n v
-    → (summaries ≡ renewed summary_of left t.summaries s n) × (fulls ≡ renewed full_of left t.fulls s n) × (counts ≡ renewed count_of left t.counts s n)
-    → over ≡ summary_of summaries → third_of left summaries fulls counts over ≡ left_by judge t (painted_third t s n v)
-left_as_judged judge kept t s n v left summaries fulls counts over e f g =
-    ap (third_of left summaries fulls counts) g
-    ∙ (λ i. under left (f.0 i) (f.1 i) (f.2 i))
-    ∙ ap (λ (ws : List ℕ). under ws (renewed summary_of ws t.summaries s n) (renewed full_of ws t.fulls s n) (renewed count_of ws t.counts s n)) e
-    ∙ sym (left_accepted judge kept t (painted_third t s n v))
+      → (reply : Reply) → value reply ≡ answered third_view t call → (left : Third) → left ≡ painted_third t s n v → (value reply, left) ≡ changed third_view t call
+  carries call s n v after reply told = AnyView.carries third_view t call s n v after (painted_third t s n v) (λ sound reply said. painted_third_lem sound s n v) (Ok reply) told
 
 -- ---- the map that is made
 
 -- of words, by making each field anew
-pub made_anew : (words summaries fulls counts : List ℕ) (over : ℕ) → AreWords 8 words → summaries ≡ summaries_of words → fulls ≡ each_of full_of words
-    → counts ≡ each_of count_of words → over ≡ summary_of summaries → third_of words summaries fulls counts over ≡ holding words
-made_anew words summaries fulls counts over held e f g h =
-    ap (third_of words summaries fulls counts) h ∙ (λ i. under words (e i) (f i) (g i))
+pub made_anew : (words summaries fulls counts : List ℕ) (summary : ℕ) → AreWords 8 words → (left : Third)
+    → left ≡ renewed_third (third_of words summaries fulls counts summary) 0 16384 → (over : ℕ) → over ≡ summary_of left.summaries
+    → third_of left.words left.summaries left.fulls left.counts over ≡ holding words
+made_anew words summaries fulls counts summary held left e over f =
+    ap (third_of left.words left.summaries left.fulls left.counts) f
+    ∙ ap (λ (m : Third). under m.words m.summaries m.fulls m.counts) e
+    ∙ (λ i. under words (renewed_all summary_of words summaries i) (renewed_all full_of words fulls i) (renewed_all count_of words counts i))
     ∙ ap (third_of words (summaries_of words) (each_of full_of words) (each_of count_of words)) (top_by_summaries words held)
 
 -- of slots that are all alike each count is known

@@ -1,5 +1,5 @@
 -- What the loop over the reached trees knows of each field: before tree i, those of the reached trees before it are made anew. Assumes nothing.
-use mathlib.Core.Path.{◌≡◌, sym, ap, ◌∙◌}
+use mathlib.Core.Path.{◌≡◌, sym, ap, ap₂, ◌∙◌}
 use mathlib.Core.Bool.{Bool, true, false, ◌&&◌}
 use mathlib.Core.List.{List}
 use Prim.Native.Nat.{ℕ, ◌+◌, ◌*◌, ◌/◌, ◌≤◌, ◌<◌}
@@ -12,7 +12,15 @@ use borrow.Author.Tests.{le-leb, lt-leb, lt-ltb, ltb-true, eqb-true, eqb-false}
 use Rattle.bits.specs.Range.{either, same_test, and_true, and_false}
 use Rattle.views.specs.Painting.{end_in}
 use Rattle.views.specs.Words.{listed, length_listed, listed_first, listed_is, listed_agree}
+use Rattle.views.specs.Summary.{summary_of}
+use Rattle.views.specs.Full.{full_of}
+use Rattle.views.specs.Count.{count_of}
 use Rattle.views.specs.Trees.{tree_words, reaches_tree, renewed_at, renewed}
+use Rattle.tree.specs.declared.Stored.{Stored}
+use Rattle.tree.specs.Layout.{theirs}
+use Rattle.third.specs.declared.Third.{Third}
+use Rattle.third.specs.Layout.{third_of}
+use Rattle.third.specs.Inner.{renewed_third}
 
 module _ (made : List ℕ → ℕ) (words fields : List ℕ) (s e : ℕ) where
   abbrev pub renewed_first : ℕ → List ℕ
@@ -64,3 +72,36 @@ renew_all made words fields s n i past = listed_agree _ _ 16 0 (λ j l. ap (rene
         either (ltb (j * 1024) e)
         (λ t. rw (lt-ltb j i (omega (arith, ltb-true (j * 1024) e t))) (and_true (reaches_tree s e j)))
         (λ t. rw t (rw (and_false (leb (s / 1024) j))))
+
+-- ---- the same of a whole map
+
+-- what is stored of tree i is this
+abbrev pub with_stored : Third → ℕ → Stored → Third
+with_stored t i stored = third_of t.words (set t.summaries i stored.summary) (set t.fulls i stored.full) (set t.counts i stored.count) t.summary
+
+module _ (t : Third) (s e : ℕ) where
+  -- before tree i
+  abbrev pub renewed_before : ℕ → Third
+  renewed_before i =
+      third_of t.words (renewed_first summary_of t.words t.summaries s e i) (renewed_first full_of t.words t.fulls s e i) (renewed_first count_of t.words t.counts s e i) t.summary
+
+  pub before_none : length t.summaries ≡ 16 → length t.fulls ≡ 16 → length t.counts ≡ 16 → t ≡ renewed_before (s / 1024)
+  before_none summaries fulls counts = λ k. third_of t.words (none summary_of t.summaries summaries k) (none full_of t.fulls fulls k) (none count_of t.counts counts k) t.summary
+    where
+      none : (made : List ℕ → ℕ) (fields : List ℕ) → length fields ≡ 16 → fields ≡ renewed_first made t.words fields s e (s / 1024)
+      none made fields many = renew_none made t.words fields s e many (s / 1024) (omega arith)
+
+  pub before_on : (i : ℕ) → i < 16 → s / 1024 ≤ i → i * 1024 < e → (m : Third) → m ≡ renewed_before i → (stored : Stored) → stored ≡ theirs (tree_words m.words i)
+      → with_stored m i stored ≡ renewed_before (i + 1)
+  before_on i l from to m is stored its_own =
+      ap₂ (λ (m : Third) (stored : Stored). with_stored m i stored) is (its_own ∙ ap (λ (m : Third). theirs (tree_words m.words i)) is)
+      ∙ (λ k. third_of t.words (on summary_of t.summaries k) (on full_of t.fulls k) (on count_of t.counts k) t.summary)
+    where
+      on : (made : List ℕ → ℕ) (fields : List ℕ) → set (renewed_first made t.words fields s e i) i (made (tree_words t.words i)) ≡ renewed_first made t.words fields s e (i + 1)
+      on made fields = renew_on made t.words fields s e i l from to
+
+pub before_all : (t : Third) (s n i : ℕ) → end_in 16384 s n ≤ i * 1024 → renewed_before t s (end_in 16384 s n) i ≡ renewed_third t s n
+before_all t s n i past = λ k. third_of t.words (all summary_of t.summaries k) (all full_of t.fulls k) (all count_of t.counts k) t.summary
+  where
+    all : (made : List ℕ → ℕ) (fields : List ℕ) → renewed_first made t.words fields s (end_in 16384 s n) i ≡ renewed made t.words fields s n
+    all made fields = renew_all made t.words fields s n i past

@@ -1,11 +1,10 @@
 -- What the owner demands of the third level: one value of `Demands`, which has the sentences, over this map's view and with 2 ^ 14 slots; what is the
 -- map's own beside it; and that each contract leaves one outcome.
-use Rattle.std.specs.Prelude.{◌≡◌, Bool, List, ℕ}
+use Rattle.std.specs.Prelude.{◌≡◌, Bool, List, ℕ, Result}
 use Rattle.std.proofs.Common.{sym, ap, ◌∙◌}
-use Rattle.answers.proofs.Answers.{answer_says_injective, next_free_says_injective, truth_says_injective, number_says_injective}
-use Rattle.answers.specs.declared.NextFree.{NextFree}
-use Rattle.answers.specs.declared.Number.{Number}
-use Rattle.answers.specs.declared.Truth.{Truth}
+use Rattle.answers.proofs.Answers.{answer_says_injective}
+use Rattle.answers.specs.declared.Refusal.{Refusal}
+use Rattle.answers.specs.declared.Changed.{Changed}
 use Rattle.slots.specs.Sets.{none, all}
 use Rattle.slots.specs.Calls.{take_call, claim_call, free_call, set_call}
 use Rattle.slots.specs.View.{same_state, places_decide}
@@ -13,14 +12,13 @@ use Rattle.slots.proofs.Demands.{Demands, demanded}
 use Rattle.views.specs.Painting.{slot_in}
 use Rattle.views.specs.Words.{AreWords}
 use Rattle.third.specs.declared.Third.{Third}
-use Rattle.third.specs.declared.Changed.{Changed}
-use Rattle.third.specs.Layout.{holding, slot_of, of_slots, Sound, IsThird, third_view, holding_sound}
+use Rattle.third.specs.Layout.{slot_of, of_slots, Sound, IsThird, third_view, holding_sound}
 use Rattle.third.specs.Says.{answer_of, NewEmptySays, NewFullSays, HoldingSays, WithSummariesSays, WithFullsSays, WithCountsSays, WordsSays, SummariesSays, FullsSays, CountsSays, SummarySays, TakeSays, ClaimSays, FreeSays, SetSays, NextFreeSays, GetSays, EmptySays, UsedSays, CapacitySays}
 
 -- ---- the demands. An outcome is a `Changed`
 
-pub third_demands : Demands third_view Changed answer_of (λ r. r.map)
-third_demands = demanded third_view Changed answer_of (λ r. r.map)
+pub third_demands : Demands third_view (Changed Refusal Third) answer_of (λ r. r.map)
+third_demands = demanded third_view (Changed Refusal Third) answer_of (λ r. r.map)
     (λ r q says leaves. λ i. record { answer = answer_says_injective r.answer q.answer says i; map = leaves i })
 
 -- ---- sound maps
@@ -88,29 +86,29 @@ counts_one_answer t r q p o = p ∙ sym o
 pub summary_one_answer : (t : Third) (r q : ℕ) → SummarySays t r → SummarySays t q → r ≡ q
 summary_one_answer t r q p o = p ∙ sym o
 
-pub take_one_answer : (t : Third) (n a : ℕ) (r q : Changed) → TakeSays t n a r → TakeSays t n a q → r ≡ q
+pub take_one_answer : (t : Third) (n a : ℕ) (r q : Changed Refusal Third) → TakeSays t n a r → TakeSays t n a q → r ≡ q
 take_one_answer t n a = (third_demands.of_any t).one_answer (take_call 14 (slot_of t) n a)
 
-pub claim_one_answer : (t : Third) (start n : ℕ) (r q : Changed) → ClaimSays t start n r → ClaimSays t start n q → r ≡ q
+pub claim_one_answer : (t : Third) (start n : ℕ) (r q : Changed Refusal Third) → ClaimSays t start n r → ClaimSays t start n q → r ≡ q
 claim_one_answer t start n = (third_demands.of_any t).one_answer (claim_call 14 (slot_of t) start n)
 
-pub free_one_answer : (t : Third) (start n : ℕ) (r q : Changed) → FreeSays t start n r → FreeSays t start n q → r ≡ q
+pub free_one_answer : (t : Third) (start n : ℕ) (r q : Changed Refusal Third) → FreeSays t start n r → FreeSays t start n q → r ≡ q
 free_one_answer t start n = (third_demands.of_any t).one_answer (free_call 14 (slot_of t) start n)
 
-pub set_one_answer : (t : Third) (start n : ℕ) (used : Bool) (r q : Changed) → SetSays t start n used r → SetSays t start n used q → r ≡ q
+pub set_one_answer : (t : Third) (start n : ℕ) (used : Bool) (r q : Changed Refusal Third) → SetSays t start n used r → SetSays t start n used q → r ≡ q
 set_one_answer t start n used = (third_demands.of_any t).one_answer (set_call 14 (slot_of t) start n used)
 
-pub next_free_one_answer : (t : Third) (start : ℕ) (r q : NextFree) → NextFreeSays t start r → NextFreeSays t start q → r ≡ q
-next_free_one_answer t start r q p o = next_free_says_injective r q (p ∙ sym o)
+pub next_free_one_answer : (t : Third) (start : ℕ) (r q : Result ℕ Refusal) → NextFreeSays t start r → NextFreeSays t start q → r ≡ q
+next_free_one_answer t start r q p o = answer_says_injective r q (p ∙ sym o)
 
-pub get_one_answer : (t : Third) (slot : ℕ) (r q : Truth) → GetSays t slot r → GetSays t slot q → r ≡ q
-get_one_answer t slot r q p o = truth_says_injective r q (p ∙ sym o)
+pub get_one_answer : (t : Third) (slot : ℕ) (r q : Result Bool Refusal) → GetSays t slot r → GetSays t slot q → r ≡ q
+get_one_answer t slot r q p o = answer_says_injective r q (p ∙ sym o)
 
-pub empty_one_answer : (t : Third) (r q : Truth) → EmptySays t r → EmptySays t q → r ≡ q
-empty_one_answer t r q p o = truth_says_injective r q (p ∙ sym o)
+pub empty_one_answer : (t : Third) (r q : Result Bool Refusal) → EmptySays t r → EmptySays t q → r ≡ q
+empty_one_answer t r q p o = answer_says_injective r q (p ∙ sym o)
 
-pub used_one_answer : (t : Third) (r q : Number) → UsedSays t r → UsedSays t q → r ≡ q
-used_one_answer t r q p o = number_says_injective r q (p ∙ sym o)
+pub used_one_answer : (t : Third) (r q : Result ℕ Refusal) → UsedSays t r → UsedSays t q → r ≡ q
+used_one_answer t r q p o = answer_says_injective r q (p ∙ sym o)
 
 pub capacity_one_answer : (r q : ℕ) → CapacitySays r → CapacitySays q → r ≡ q
 capacity_one_answer r q p o = p ∙ sym o

@@ -1,7 +1,7 @@
 -- The view of the third level: 256 words of 64 slots in a row, sixteen trees side by side. The summaries of the trees and one more over them, the trees' marks
 -- of full words and their counts are kept beside the words. Rests on `views`; what soundness means is said with the trees of `tree`.
 use Rattle.std.specs.Prelude.{◌≡◌, refl, ◌↔◌, true, List, ℕ, ◌+◌, ◌*◌, ◌^◌, ◌<◌, length, get_or}
-use Rattle.std.proofs.Common.{sym, ap, ap₂, ◌∙◌, arith}
+use Rattle.std.proofs.Common.{sym, ap, ◌∙◌, arith}
 use Rattle.bits.specs.Digits.{digit, number_agree}
 use Rattle.slots.specs.Sets.{Slots, Named, SomeUsed}
 use Rattle.slots.specs.Kinds.{plain}
@@ -21,6 +21,7 @@ use Rattle.views.specs.Trees.{all_fit, tree_words, tree_word, tree_words_lem, ea
 use Rattle.views.proofs.Trees.{tree_slot, each_kept}
 use Rattle.views.specs.Summaries.{summaries_of, top_of}
 use Rattle.views.proofs.Summaries.{top_by_summaries, summaries_kept, top_kept}
+use Rattle.tree.specs.declared.Stored.{Stored}
 use Rattle.tree.specs.declared.Tree.{Tree}
 use Rattle.tree.specs.Layout as Tree
 use Rattle.tree.specs.Layout.{stored_of, tree_of}
@@ -41,9 +42,13 @@ under words summaries fulls counts = third_of words summaries fulls counts (summ
 abbrev pub slot_of : Third → Slots
 slot_of t = slot_in t.words
 
+-- what is stored of tree i
+abbrev pub stored_at : Third → ℕ → Stored
+stored_at t i = stored_of (get_or t.summaries i 0) (get_or t.fulls i 0) (get_or t.counts i 0)
+
 -- tree i: its sixteen words, and what is stored of it
 abbrev pub tree_at : Third → ℕ → Tree
-tree_at t i = tree_of (tree_words t.words i) (stored_of (get_or t.summaries i 0) (get_or t.fulls i 0) (get_or t.counts i 0))
+tree_at t i = tree_of (tree_words t.words i) (stored_at t i)
 
 -- ---- the view, a field at a time
 

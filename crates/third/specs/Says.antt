@@ -1,16 +1,15 @@
 -- The contract of each call on the third level. Those that the demands speak of are theirs, through this map's view: answer and map are what the
 -- meaning of `slots` has. Rests on `Layout`.
-use Rattle.std.specs.Prelude.{◌≡◌, Bool, List, ℕ}
+use Rattle.std.specs.Prelude.{◌≡◌, Bool, List, ℕ, Result}
 use Rattle.answers.specs.Said.{Said}
-use Rattle.answers.specs.Answers.{Reply, answer_says, next_free_says, truth_says, number_says}
-use Rattle.answers.specs.declared.NextFree.{NextFree}
-use Rattle.answers.specs.declared.Truth.{Truth}
-use Rattle.answers.specs.declared.Number.{Number}
+use Rattle.answers.specs.Answers.{answer_says}
+use Rattle.answers.specs.declared.Reply.{Reply}
+use Rattle.answers.specs.declared.Refusal.{Refusal}
+use Rattle.answers.specs.declared.Changed.{Changed}
 use Rattle.slots.specs.Sets.{none, all}
 use Rattle.slots.specs.Calls.{capacity}
 use Rattle.slots.specs.Demands as AnyView
 use Rattle.third.specs.declared.Third.{Third}
-use Rattle.third.specs.declared.Changed.{Changed}
 use Rattle.third.specs.Layout.{third_of, holding, of_slots, third_view}
 
 abbrev pub NewEmptySays : Third → Type 0
@@ -48,32 +47,32 @@ abbrev pub SummarySays : Third → ℕ → Type 0
 SummarySays t r = r ≡ t.summary
 
 -- what an outcome says
-abbrev pub answer_of : Changed → Said Reply
+abbrev pub answer_of : Changed Refusal Third → Said Reply
 answer_of r = answer_says r.answer
 
-abbrev pub TakeSays : Third → ℕ → ℕ → Changed → Type 0
-TakeSays t n a r = AnyView.TakeSays third_view Changed answer_of (λ x. x.map) t n a r
+abbrev pub TakeSays : Third → ℕ → ℕ → Changed Refusal Third → Type 0
+TakeSays t n a r = AnyView.TakeSays third_view (Changed Refusal Third) answer_of (λ x. x.map) t n a r
 
-abbrev pub ClaimSays : Third → ℕ → ℕ → Changed → Type 0
-ClaimSays t start n r = AnyView.ClaimSays third_view Changed answer_of (λ x. x.map) t start n r
+abbrev pub ClaimSays : Third → ℕ → ℕ → Changed Refusal Third → Type 0
+ClaimSays t start n r = AnyView.ClaimSays third_view (Changed Refusal Third) answer_of (λ x. x.map) t start n r
 
-abbrev pub FreeSays : Third → ℕ → ℕ → Changed → Type 0
-FreeSays t start n r = AnyView.FreeSays third_view Changed answer_of (λ x. x.map) t start n r
+abbrev pub FreeSays : Third → ℕ → ℕ → Changed Refusal Third → Type 0
+FreeSays t start n r = AnyView.FreeSays third_view (Changed Refusal Third) answer_of (λ x. x.map) t start n r
 
-abbrev pub SetSays : Third → ℕ → ℕ → Bool → Changed → Type 0
-SetSays t start n used r = AnyView.SetSays third_view Changed answer_of (λ x. x.map) t start n used r
+abbrev pub SetSays : Third → ℕ → ℕ → Bool → Changed Refusal Third → Type 0
+SetSays t start n used r = AnyView.SetSays third_view (Changed Refusal Third) answer_of (λ x. x.map) t start n used r
 
-abbrev pub NextFreeSays : Third → ℕ → NextFree → Type 0
-NextFreeSays t start r = AnyView.NextFreeSays third_view Changed answer_of (λ x. x.map) t start (next_free_says r)
+abbrev pub NextFreeSays : Third → ℕ → Result ℕ Refusal → Type 0
+NextFreeSays t start r = AnyView.NextFreeSays third_view (Changed Refusal Third) answer_of (λ x. x.map) t start (answer_says r)
 
-abbrev pub GetSays : Third → ℕ → Truth → Type 0
-GetSays t slot r = AnyView.GetSays third_view Changed answer_of (λ x. x.map) t slot (truth_says r)
+abbrev pub GetSays : Third → ℕ → Result Bool Refusal → Type 0
+GetSays t slot r = AnyView.GetSays third_view (Changed Refusal Third) answer_of (λ x. x.map) t slot (answer_says r)
 
-abbrev pub EmptySays : Third → Truth → Type 0
-EmptySays t r = AnyView.EmptySays third_view Changed answer_of (λ x. x.map) t (truth_says r)
+abbrev pub EmptySays : Third → Result Bool Refusal → Type 0
+EmptySays t r = AnyView.EmptySays third_view (Changed Refusal Third) answer_of (λ x. x.map) t (answer_says r)
 
-abbrev pub UsedSays : Third → Number → Type 0
-UsedSays t r = AnyView.UsedSays third_view Changed answer_of (λ x. x.map) t (number_says r)
+abbrev pub UsedSays : Third → Result ℕ Refusal → Type 0
+UsedSays t r = AnyView.UsedSays third_view (Changed Refusal Third) answer_of (λ x. x.map) t (answer_says r)
 
 abbrev pub CapacitySays : ℕ → Type 0
 CapacitySays r = r ≡ capacity 14

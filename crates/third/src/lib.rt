@@ -8,24 +8,23 @@
 #![tactic(auto)]
 
 ghost use Rattle.third.specs.Says.{NewEmptySays, NewFullSays, HoldingSays, WithSummariesSays, WithFullsSays, WithCountsSays, WordsSays, SummariesSays, FullsSays, CountsSays, SummarySays, TakeSays, ClaimSays, FreeSays, SetSays, NextFreeSays, GetSays, EmptySays, UsedSays, CapacitySays};
-ghost use Rattle.third.specs.Inner.{SoundSays, RangeJudged, ChangeJudged, TakeJudged, TotalSays, painted_third};
-ghost use Rattle.third.specs.Layout.{third_of, IsThird};
-ghost use Rattle.answers.specs.Answers.{left_by};
-ghost use Rattle.bits.specs.Range.{bit};
+ghost use Rattle.answers.specs.Answers.{left_with};
+ghost use Rattle.third.specs.Inner.{SoundSays, TreeSoundSays, RangeJudged, ChangeJudged, TakeJudged, TotalSays, painted_third, renewed_third};
+ghost use Rattle.third.specs.Layout.{stored_at, IsThird};
 ghost use Rattle.views.specs.Summary.{summary_of};
-ghost use Rattle.views.specs.Full.{full_of};
-ghost use Rattle.views.specs.Count.{count_of};
-ghost use Rattle.views.specs.Trees.{tree_words, renewed};
+ghost use Rattle.views.specs.Trees.{tree_words};
 ghost use Rattle.tree.specs.Says as Tree;
-ghost use Rattle.std.specs.Prelude.{◌≡◌, not, ◌*◌, ◌^◌, ◌<◌, eqb, length};
+ghost use Rattle.std.specs.Prelude.{◌≡◌, MatchResult, true, false, ◌<◌};
 
-use answers::{Answer, NextFree, Number, Refusal, Truth};
+use answers::{Changed, Refusal, Reply};
 use judges::Size;
-use rows::{SHIFTS, TABLE};
+use rows::{Mark, Masks};
 use tree::Stored;
 
 // Slot s is bit s % 64 of word s / 64; 1 means used. Tree i is the words from 16 * i on, with summary i,
 // mark of full words i and count i.
+// Three arrays, and not one of `Stored`: `SummariesSays`, `FullsSays`, `CountsSays` and their `With..` promise
+// each as a list of its own, and the search borrows the marks as one slice.
 #[derive(Clone, Copy)]
 pub struct Third {
     words: [u64; 256],
@@ -35,13 +34,7 @@ pub struct Third {
     summary: u16,
 }
 
-// What a change comes to, and the map it leaves.
-#[derive(Drop)]
-pub struct Changed {
-    pub answer: Answer,
-    pub map: Third,
-}
-
+#[tactic(auto, using(crate::proofs::Values::is_third))]
 impl Third {
     // The map with no slot used.
     pub fn new_empty() -> Third
@@ -73,18 +66,13 @@ impl Third {
     pub fn holding(words: [u64; 256]) -> Third
         ensures { HoldingSays words result }
     {
-        let mut summaries = [0u16; 16];
-        let mut fulls = [0u16; 16];
-        let mut counts = [0u16; 16];
-        renew(&words, &mut summaries, &mut fulls, &mut counts, 0, SLOTS);
-        let summary = top(&summaries);
-        Third {
+        let mut map = Third {
             words,
-            summaries,
-            fulls,
-            counts,
-            summary,
-        }
+            ..Third::new_empty()
+        };
+        map.renew(0, SLOTS);
+        map.summary = top(&map.summaries);
+        map
     }
 
     // The same map with other summaries, sound or not: what comes from outside can be either. Never
@@ -92,28 +80,25 @@ impl Third {
     pub fn with_summaries(self, summaries: [u16; 16], summary: u16) -> Third
         ensures { WithSummariesSays self summaries summary result }
     {
-        let mut third = self;
-        third.summaries = summaries;
-        third.summary = summary;
-        third
+        Third {
+            summaries,
+            summary,
+            ..self
+        }
     }
 
     // The same map with other marks of full words, sound or not. Never refused.
     pub fn with_fulls(self, fulls: [u16; 16]) -> Third
         ensures { WithFullsSays self fulls result }
     {
-        let mut third = self;
-        third.fulls = fulls;
-        third
+        Third { fulls, ..self }
     }
 
     // The same map with other stored counts, sound or not. Never refused.
     pub fn with_counts(self, counts: [u16; 16]) -> Third
         ensures { WithCountsSays self counts result }
     {
-        let mut third = self;
-        third.counts = counts;
-        third
+        Third { counts, ..self }
     }
 
     // The words, of every map. Never refused.
@@ -155,239 +140,242 @@ impl Third {
     // Takes n slots at the lowest free start that is a multiple of 2^a, and answers that start.
     // Refused, the lowest number first: 1 where the map is not sound, 2 where n is 0, 3 where a is
     // 14 or more, 4 where n is above 16,384, 7 where no start fits. A refusal hands back the very map.
-    pub fn take(self, n: usize, a: usize) -> Changed
+    pub fn take(self, n: usize, a: usize) -> Changed<Refusal, Third>
         ensures { TakeSays self n a result }
     {
-        let mut words = self.words;
-        let mut summaries = self.summaries;
-        let mut fulls = self.fulls;
-        let mut counts = self.counts;
-        let mut over = self.summary;
-        let found = judged_take(&words, &summaries, &fulls, &counts, over, n, a);
-        match found {
-            NextFree::Refused(why) => Changed {
-                answer: Answer::Refused(why),
-                map: Third {
-                    words,
-                    summaries,
-                    fulls,
-                    counts,
-                    summary: over,
-                },
-            },
-            NextFree::At(start) => {
-                let given = Answer::At(start);
-                over = carried_out(
-                    &mut words,
-                    &mut summaries,
-                    &mut fulls,
-                    &mut counts,
-                    over,
-                    given,
-                    start,
-                    n,
-                    true,
-                    SHIFTS,
-                );
-                Changed {
-                    answer: given,
-                    map: Third {
-                        words,
-                        summaries,
-                        fulls,
-                        counts,
-                        summary: over,
-                    },
-                }
-            }
-        }
+        let mut map = self;
+        let answer = map.taken(n, a);
+        Changed { answer, map }
     }
 
     // Claims the n slots from `start` on, each of which must be free. Refused: 1 where the map is not
     // sound, 2 where n is 0, 4 where the range does not end within 16,384 slots, 6 where a slot is
     // used. A refusal hands back the very map.
-    pub fn claim(self, start: usize, n: usize) -> Changed
+    pub fn claim(self, start: usize, n: usize) -> Changed<Refusal, Third>
         ensures { ClaimSays self start n result }
     {
-        let mut words = self.words;
-        let mut summaries = self.summaries;
-        let mut fulls = self.fulls;
-        let mut counts = self.counts;
-        let mut over = self.summary;
-        let judged = judged_change(&words, &summaries, &fulls, &counts, over, start, n, true);
-        over = carried_out(
-            &mut words,
-            &mut summaries,
-            &mut fulls,
-            &mut counts,
-            over,
-            judged,
-            start,
-            n,
-            true,
-            TABLE,
-        );
-        Changed {
-            answer: judged,
-            map: Third {
-                words,
-                summaries,
-                fulls,
-                counts,
-                summary: over,
-            },
-        }
+        let mut map = self;
+        let answer = map.claimed(start, n);
+        Changed { answer, map }
     }
 
     // Frees the n slots from `start` on, each of which must be used. Refused: 1 where the map is not
     // sound, 2 where n is 0, 4 where the range does not end within 16,384 slots, 5 where a slot is
     // free already. A refusal hands back the very map.
-    pub fn free(self, start: usize, n: usize) -> Changed
+    pub fn free(self, start: usize, n: usize) -> Changed<Refusal, Third>
         ensures { FreeSays self start n result }
     {
-        let mut words = self.words;
-        let mut summaries = self.summaries;
-        let mut fulls = self.fulls;
-        let mut counts = self.counts;
-        let mut over = self.summary;
-        let judged = judged_change(&words, &summaries, &fulls, &counts, over, start, n, false);
-        over = carried_out(
-            &mut words,
-            &mut summaries,
-            &mut fulls,
-            &mut counts,
-            over,
-            judged,
-            start,
-            n,
-            false,
-            SHIFTS,
-        );
-        Changed {
-            answer: judged,
-            map: Third {
-                words,
-                summaries,
-                fulls,
-                counts,
-                summary: over,
-            },
-        }
+        let mut map = self;
+        let answer = map.freed(start, n);
+        Changed { answer, map }
     }
 
     // Gives the n slots from `start` on the value `used`, whatever they held. Refused: 1 where the
     // map is not sound, 2 where n is 0, 4 where the range does not end within 16,384 slots. A refusal
     // hands back the very map.
-    pub fn set(self, start: usize, n: usize, used: bool) -> Changed
+    pub fn set(self, start: usize, n: usize, used: bool) -> Changed<Refusal, Third>
         ensures { SetSays self start n used result }
     {
-        let mut words = self.words;
-        let mut summaries = self.summaries;
-        let mut fulls = self.fulls;
-        let mut counts = self.counts;
-        let mut over = self.summary;
-        let judged = judged_range(&words, &summaries, &fulls, &counts, over, start, n);
-        over = carried_out(
-            &mut words,
-            &mut summaries,
-            &mut fulls,
-            &mut counts,
-            over,
-            judged,
-            start,
-            n,
-            used,
-            TABLE,
-        );
-        Changed {
-            answer: judged,
-            map: Third {
-                words,
-                summaries,
-                fulls,
-                counts,
-                summary: over,
-            },
-        }
+        let mut map = self;
+        let answer = map.given(start, n, used);
+        Changed { answer, map }
     }
 
     // The least free slot from `start` on. Refused: 1 where the map is not sound, 4 where `start` is
     // 16,384 or more, 7 where no slot is free from there on.
-    pub fn next_free(self, start: usize) -> NextFree
+    pub fn next_free(self, start: usize) -> Result<usize, Refusal>
         ensures { NextFreeSays self start result }
     {
-        if !sound(
-            &self.words,
-            &self.summaries,
-            &self.fulls,
-            &self.counts,
-            self.summary,
-        ) {
-            return NextFree::Refused(Refusal::Unsound);
-        }
-        judges::next_free(&self.words, &self.fulls, Size::Third, start)
+        let fulls = &self.checked()?.fulls;
+        judges::next_free(&self.words, fulls, Size::Third, start)
     }
 
     // Whether the slot is used. Refused: 1 where the map is not sound, 4 where the slot is 16,384 or
     // more.
-    pub fn get(self, slot: usize) -> Truth
+    pub fn get(self, slot: usize) -> Result<bool, Refusal>
         ensures { GetSays self slot result }
     {
-        if !sound(
-            &self.words,
-            &self.summaries,
-            &self.fulls,
-            &self.counts,
-            self.summary,
-        ) {
-            return Truth::Refused(Refusal::Unsound);
-        }
+        self.checked()?;
         judges::get(&self.words, Size::Third, slot)
     }
 
     // Whether no slot is used: the summary over the trees alone tells it of a sound map. Refused: 1
     // where the map is not sound.
-    pub fn empty(self) -> Truth
+    pub fn empty(self) -> Result<bool, Refusal>
         ensures { EmptySays self result }
     {
-        if !sound(
-            &self.words,
-            &self.summaries,
-            &self.fulls,
-            &self.counts,
-            self.summary,
-        ) {
-            return Truth::Refused(Refusal::Unsound);
-        }
-        Truth::Is(self.summary == 0)
+        Ok(self.checked()?.summary == 0)
     }
 
     // How many slots are used: of a sound map the sum of the stored counts. Refused: 1 where the map is
     // not sound.
-    pub fn used(self) -> Number
+    pub fn used(self) -> Result<u64, Refusal>
         ensures { UsedSays self result }
     {
-        if !sound(
-            &self.words,
-            &self.summaries,
-            &self.fulls,
-            &self.counts,
-            self.summary,
-        ) {
-            return Number::Refused(Refusal::Unsound);
-        }
-        Number::Is(total(&self.counts) as u64)
+        Ok(total(&self.checked()?.counts))
     }
 
     // How many slots there are, on every map. Never refused.
+    #[tactic(auto, unfolding(slots::specs::Calls::capacity))]
     pub fn capacity(self) -> usize
         ensures { CapacitySays result }
     {
         judges::capacity(Size::Third)
     }
-}
 
-// ---- what is stored
+    // ---- the changes, each in place: a refusal leaves the very map
+    // `IsThird` is asked, here and below: of a map behind a `&` the check knows how long its arrays are, but not
+    // that their numbers fit. No ghost field: it would stand in the record that every definition of `specs/`
+    // builds.
+
+    fn taken(&mut self, n: usize, a: usize) -> Result<Reply, Refusal>
+        requires { IsThird self.old }
+        ensures { TakeSays self.old n a (left_with result self.new) }
+    {
+        let start = self.judged_take(n, a)?;
+        self.carry_out(start, n, true, Masks::Shifts);
+        Ok(Reply::At(start))
+    }
+
+    fn claimed(&mut self, start: usize, n: usize) -> Result<Reply, Refusal>
+        requires { IsThird self.old }
+        ensures { ClaimSays self.old start n (left_with result self.new) }
+    {
+        let done = self.judged_change(start, n, true)?;
+        self.carry_out(start, n, true, Masks::Table);
+        Ok(done)
+    }
+
+    fn freed(&mut self, start: usize, n: usize) -> Result<Reply, Refusal>
+        requires { IsThird self.old }
+        ensures { FreeSays self.old start n (left_with result self.new) }
+    {
+        let done = self.judged_change(start, n, false)?;
+        self.carry_out(start, n, false, Masks::Shifts);
+        Ok(done)
+    }
+
+    fn given(&mut self, start: usize, n: usize, used: bool) -> Result<Reply, Refusal>
+        requires { IsThird self.old }
+        ensures { SetSays self.old start n used (left_with result self.new) }
+    {
+        let done = self.judged_range(start, n)?;
+        self.carry_out(start, n, used, Masks::Table);
+        Ok(done)
+    }
+
+    // ---- check 1, in front of the judges
+
+    // The very map, where it is sound; refused with 1 where it is not. Inlined, as the reference would else leave
+    // the function, and the map that a free changes would be copied twice more.
+    #[inline(always)]
+    fn checked(&self) -> Result<&Third, Refusal>
+        requires { IsThird self.now }
+        ensures { MatchResult result (λ map. (map.now ≡ self.now) × SoundSays self.now true) (λ why. (why ≡ Refusal.Unsound) × SoundSays self.now false) }
+    {
+        if !self.sound() {
+            return Err(Refusal::Unsound);
+        }
+        Ok(self)
+    }
+
+    // Done where the map is sound and the n slots from `start` on are a range of it, and else the refusal.
+    fn judged_range(&self, start: usize, n: usize) -> Result<Reply, Refusal>
+        requires { IsThird self.now }
+        ensures { RangeJudged self.now start n result }
+    {
+        self.checked()?;
+        judges::range(Size::Third, start, n)
+    }
+
+    // Done where claim accepts, or free where `used` is false, and else the refusal.
+    fn judged_change(&self, start: usize, n: usize, used: bool) -> Result<Reply, Refusal>
+        requires { IsThird self.now }
+        ensures { ChangeJudged self.now start n used result }
+    {
+        self.checked()?;
+        judges::change(&self.words, Size::Third, start, n, used)
+    }
+
+    // The start that take grants, or its refusal. The search goes by the marks of full words.
+    fn judged_take(&self, n: usize, a: usize) -> Result<usize, Refusal>
+        requires { IsThird self.now }
+        ensures { TakeJudged self.now n a result }
+    {
+        let marks = &self.checked()?.fulls;
+        judges::take(&self.words, marks, Size::Third, n, a)
+    }
+
+    // ---- an accepted call, carried out in the words
+
+    // The n slots from `start` on get the value `used`: what is stored of each tree that they reach is made
+    // anew, and the summary over the trees.
+    fn carry_out(&mut self, start: usize, n: usize, used: bool, masks: Masks)
+        ensures { self.new ≡ painted_third self.old start n used }
+    {
+        rows::paint(&mut self.words, start, n, used, masks);
+        self.renew(start, n);
+        self.summary = top(&self.summaries);
+    }
+
+    // ---- what is stored
+
+    // Whether each tree is sound, and the summary over them is theirs.
+    fn sound(&self) -> bool
+        requires { IsThird self.now }
+        ensures { SoundSays self.now result }
+    {
+        (0..TREES).all(|i| self.tree_sound(i)) && self.summary == top(&self.summaries)
+    }
+
+    // Whether tree i is sound.
+    fn tree_sound(&self, i: usize) -> bool
+        requires { i < 16 }
+        ensures { TreeSoundSays self.now i result }
+    {
+        tree::sound(self.tree_words(i), self.stored(i))
+    }
+
+    // What is to be stored of tree i.
+    fn tree_stored(&self, i: usize) -> Stored
+        requires { i < 16 }
+        ensures { Tree.StoredOfSays (tree_words self.now.words i) result }
+    {
+        tree::stored_of(self.tree_words(i))
+    }
+
+    // The words of tree i.
+    fn tree_words(&self, i: usize) -> &[u64]
+        requires { i < 16 }
+        ensures { result.now ≡ tree_words self.now.words i }
+    {
+        let first = TREE_WORDS * i;
+        &self.words[first..first + TREE_WORDS]
+    }
+
+    // What is stored of tree i.
+    fn stored(&self, i: usize) -> Stored
+        requires { i < 16 }
+        ensures { result ≡ stored_at self.now i }
+    {
+        Stored {
+            summary: self.summaries[i],
+            full: self.fulls[i],
+            count: self.counts[i],
+        }
+    }
+
+    // Makes what is stored of each tree that the n slots from `start` on reach anew.
+    fn renew(&mut self, start: usize, n: usize)
+        ensures { self.new ≡ renewed_third self.old start n }
+    {
+        let end = rows::end_of(SLOTS, start, n);
+        for i in start / TREE_SLOTS..end.div_ceil(TREE_SLOTS) {
+            let new = self.tree_stored(i);
+            (self.summaries[i], self.fulls[i], self.counts[i]) = (new.summary, new.full, new.count);
+        }
+    }
+}
 
 const TREES: usize = 16;
 
@@ -397,194 +385,16 @@ const TREE_SLOTS: usize = 1024;
 
 const SLOTS: usize = 16384;
 
-// Whether each tree is sound, and the summary over them is theirs.
-fn sound<'a>(
-    words: &'a [u64; 256],
-    summaries: &'a [u16; 16],
-    fulls: &'a [u16; 16],
-    counts: &'a [u16; 16],
-    summary: u16,
-) -> bool
-    requires { IsThird (third_of words.now summaries.now fulls.now counts.now summary) }
-    ensures { SoundSays (third_of words.now summaries.now fulls.now counts.now summary) result }
-{
-    let mut i = 0;
-    while i < TREES {
-        let stored = Stored {
-            summary: summaries[i],
-            full: fulls[i],
-            count: counts[i],
-        };
-        if !tree_sound(words, i, stored) {
-            return false;
-        }
-        i += 1;
-    }
-    summary == top(summaries)
-}
-
-// Whether tree i with this stored is sound.
-fn tree_sound(words: &[u64], i: usize, stored: Stored) -> bool
-    requires { (i < 16) × (length words.now ≡ 256) }
-    ensures { Tree.SoundSays (tree_words words.now i) stored result }
-{
-    let first = TREE_WORDS * i;
-    tree::sound(&words[first..first + TREE_WORDS], stored)
-}
-
-// What tree i has stored.
-fn tree_stored(words: &[u64], i: usize) -> Stored
-    requires { (i < 16) × (length words.now ≡ 256) }
-    ensures { Tree.StoredOfSays (tree_words words.now i) result }
-{
-    let first = TREE_WORDS * i;
-    tree::stored_of(&words[first..first + TREE_WORDS])
-}
-
-// Makes what is stored of each tree that the n slots from `start` on reach anew.
-fn renew(
-    words: &[u64],
-    summaries: &mut [u16; 16],
-    fulls: &mut [u16; 16],
-    counts: &mut [u16; 16],
-    start: usize,
-    n: usize,
-)
-    requires { (length words.now ≡ 256) × (length summaries.old ≡ 16) × (length fulls.old ≡ 16) × (length counts.old ≡ 16) }
-    ensures { (summaries.new ≡ renewed summary_of words.now summaries.old start n) × (fulls.new ≡ renewed full_of words.now fulls.old start n) × (counts.new ≡ renewed count_of words.now counts.old start n) }
-{
-    let end = rows::end_of(SLOTS, start, n);
-    let mut i = start / TREE_SLOTS;
-    while i * TREE_SLOTS < end {
-        let stored = tree_stored(words, i);
-        summaries[i] = stored.summary;
-        fulls[i] = stored.full;
-        counts[i] = stored.count;
-        i += 1;
-    }
-}
-
 // The sum of the counts.
-fn total(counts: &[u16; 16]) -> usize
+fn total(counts: &[u16; 16]) -> u64
     ensures { TotalSays counts.now result }
 {
-    let mut total = 0;
-    let mut i = 0;
-    while i < TREES {
-        total = total + wide(counts[i]);
-        i += 1;
-    }
-    total
-}
-
-fn wide(count: u16) -> usize
-    ensures { (result ≡ count) × (result < 2 ^ 16) }
-{
-    count as usize
+    counts.iter().map(|&count| u64::from(count)).sum()
 }
 
 // The summary over the trees: bit i is 1 exactly if summary i is not 0.
 fn top(summaries: &[u16; 16]) -> u16
     ensures { result ≡ summary_of summaries.now }
 {
-    let mut summary = 0;
-    let mut i = 0;
-    while i < TREES {
-        summary = summary | used_bit(summaries[i], i);
-        i += 1;
-    }
-    summary
-}
-
-// A 1 at place i where the summary is not 0.
-fn used_bit(summary: u16, i: usize) -> u16
-    requires { i < 16 }
-    ensures { result ≡ bit (not (eqb summary 0)) * 2 ^ i }
-{
-    ((summary != 0) as u16) << i
-}
-
-// ---- check 1, in front of the judges
-
-// Done where the map is sound and the n slots from `start` on are a range of it, and else the refusal.
-fn judged_range<'a>(
-    words: &'a [u64; 256],
-    summaries: &'a [u16; 16],
-    fulls: &'a [u16; 16],
-    counts: &'a [u16; 16],
-    summary: u16,
-    start: usize,
-    n: usize,
-) -> Answer
-    requires { IsThird (third_of words.now summaries.now fulls.now counts.now summary) }
-    ensures { RangeJudged (third_of words.now summaries.now fulls.now counts.now summary) start n result }
-{
-    if !sound(words, summaries, fulls, counts, summary) {
-        return Answer::Refused(Refusal::Unsound);
-    }
-    judges::range(Size::Third, start, n)
-}
-
-// Done where claim accepts, or free where `used` is false, and else the refusal.
-fn judged_change<'a>(
-    words: &'a [u64; 256],
-    summaries: &'a [u16; 16],
-    fulls: &'a [u16; 16],
-    counts: &'a [u16; 16],
-    summary: u16,
-    start: usize,
-    n: usize,
-    used: bool,
-) -> Answer
-    requires { IsThird (third_of words.now summaries.now fulls.now counts.now summary) }
-    ensures { ChangeJudged (third_of words.now summaries.now fulls.now counts.now summary) start n used result }
-{
-    if !sound(words, summaries, fulls, counts, summary) {
-        return Answer::Refused(Refusal::Unsound);
-    }
-    judges::change(words, Size::Third, start, n, used)
-}
-
-// The start that take grants, or its refusal.
-fn judged_take<'a>(
-    words: &'a [u64; 256],
-    summaries: &'a [u16; 16],
-    fulls: &'a [u16; 16],
-    counts: &'a [u16; 16],
-    summary: u16,
-    n: usize,
-    a: usize,
-) -> NextFree
-    requires { IsThird (third_of words.now summaries.now fulls.now counts.now summary) }
-    ensures { TakeJudged (third_of words.now summaries.now fulls.now counts.now summary) n a result }
-{
-    if !sound(words, summaries, fulls, counts, summary) {
-        return NextFree::Refused(Refusal::Unsound);
-    }
-    judges::take(words, fulls, Size::Third, n, a)
-}
-
-// Carries a judged call out: on a refusal nothing, and else the n slots from `start` on get the value
-// `used`, and what is stored of each tree that they reach is made anew. Answers the summary over the trees.
-fn carried_out(
-    words: &mut [u64; 256],
-    summaries: &mut [u16; 16],
-    fulls: &mut [u16; 16],
-    counts: &mut [u16; 16],
-    summary: u16,
-    judged: Answer,
-    start: usize,
-    n: usize,
-    used: bool,
-    table: bool,
-) -> u16
-    requires { (length words.old ≡ 256) × (length summaries.old ≡ 16) × (length fulls.old ≡ 16) × (length counts.old ≡ 16) }
-    ensures { third_of words.new summaries.new fulls.new counts.new result ≡ left_by judged (third_of words.old summaries.old fulls.old counts.old summary) (painted_third (third_of words.old summaries.old fulls.old counts.old summary) start n used) }
-{
-    if let Answer::Refused(_) = judged {
-        return summary;
-    }
-    rows::paint(words, start, n, used, table);
-    renew(words, summaries, fulls, counts, start, n);
-    top(summaries)
+    rows::marks(&summaries.map(u64::from), Mark::Used)
 }

@@ -16,24 +16,13 @@ use Rattle.tree.proofs.Tree.TheLaws.{the_laws}
 use Rattle.tree.specs.contracts.Stored as S
 use Rattle.tree.proofs.Stored.TheLaws as S'
 
+pub by_values : (t : Tree) → length t.words ≡ 16 → ((i : ℕ) → Fits w64 (get_or t.words i 0)) → Fits w16 t.stored.summary → Fits w16 t.stored.full
+    → Fits w16 t.stored.count → IsTree t
+by_values t sixteen words summary full count = (is_tree_means t).1 (sixteen, λ i l. (words i).fits, summary.fits, full.fits, count.fits)
+
 module _ (t : Tree) (good : Is (row the_type) t (vals the_type the_laws t)) where
-  sixteen : length t.words ≡ 16
-  sixteen = search rules
-
-  word_fits : (i : ℕ) → Fits w64 (get_or t.words i 0)
-  word_fits i = search rules
-
-  summary_fits : Fits w16 t.summary
-  summary_fits = search rules
-
-  full_fits : Fits w16 t.full
-  full_fits = search rules
-
-  count_fits : Fits w16 t.count
-  count_fits = search rules
-
   pub is_tree : IsTree t
-  is_tree = (is_tree_means t).1 (sixteen, λ i l. (word_fits i).fits, summary_fits.fits, full_fits.fits, count_fits.fits)
+  is_tree = by_values t (search rules) (λ i. search rules) (search rules) (search rules) (search rules)
 
 module _ (stored : Stored) (good : Is (row S.the_type) stored (vals S.the_type S'.the_laws stored)) where
   summary_of_lem : Fits w16 stored.summary

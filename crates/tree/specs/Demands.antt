@@ -1,16 +1,13 @@
 -- What the owner demands of the tree map: one value of `Demands`, which has the sentences; what is the tree's own beside it; and that each contract leaves
 -- one outcome.
-use Rattle.std.specs.Prelude.{◌≡◌, refl, Bool, true, false, List, [], ◌∷◌, ℕ}
+use Rattle.std.specs.Prelude.{◌≡◌, refl, Bool, true, false, List, [], ◌∷◌, ℕ, Result, Ok, Err}
 use Rattle.std.proofs.Common.{sym, ap, ◌∙◌}
 use Rattle.answers.specs.Said.{Said, value, refused, value≢refused, value_injective, refused_injective}
 use Rattle.answers.specs.Refusals.{number_of}
-use Rattle.answers.specs.Answers.{Reply, answer_says, next_free_says, truth_says, number_says}
-use Rattle.answers.proofs.Answers.{answer_says_injective, next_free_says_injective, truth_says_injective, number_says_injective}
-use Rattle.answers.specs.declared.NextFree.{NextFree}
-use Rattle.answers.specs.declared.Number.{Number}
-use Rattle.answers.specs.declared.Number.TheVariants.{Is, Refused}
+use Rattle.answers.specs.Answers.{answer_says}
+use Rattle.answers.specs.declared.Reply.{Reply}
+use Rattle.answers.proofs.Answers.{answer_says_injective}
 use Rattle.answers.specs.declared.Refusal.{Refusal}
-use Rattle.answers.specs.declared.Truth.{Truth}
 use Rattle.bits.specs.Range.{either, count}
 use Rattle.bits.specs.Digits.{number}
 use Rattle.slots.specs.Sets.{none, all}
@@ -27,47 +24,47 @@ use Rattle.views.specs.Summary.{not_zero, NotZero, finds_not_zero}
 use Rattle.views.specs.Full.{all_ones, AllOnes, finds_all_ones}
 use Rattle.tree.specs.declared.Tree.{Tree}
 use Rattle.tree.specs.declared.Stored.{Stored}
-use Rattle.tree.specs.declared.Changed.{Changed}
+use Rattle.answers.specs.declared.Changed.{Changed}
 use Rattle.tree.specs.Layout.{holding, slot_of, of_slots, Sound, IsTree, tree_view, sound_means}
 use Rattle.tree.specs.Says.{Leaves, NewEmptySays, NewFullSays, HoldingSays, WithSummarySays, WithFullSays, WithCountSays, WordsSays, SummarySays, FullSays, CountSays, TakeSays, ClaimSays, FreeSays, SetSays, NextFreeSays, GetSays, EmptySays, UsedSays, CapacitySays, StoredOfSays, SoundSays}
 
 -- ---- the demands. An outcome is a `Changed`; the tree's contracts are those of `Demands`, with 2 ^ 10 slots
 
 -- what an outcome says
-abbrev pub answer_of : Changed → Said Reply
+abbrev pub answer_of : Changed Refusal Tree → Said Reply
 answer_of r = answer_says r.answer
 
-pub tree_demands : Demands tree_view Changed answer_of (λ r. r.map)
-tree_demands = demanded tree_view Changed answer_of (λ r. r.map)
+pub tree_demands : Demands tree_view (Changed Refusal Tree) answer_of (λ r. r.map)
+tree_demands = demanded tree_view (Changed Refusal Tree) answer_of (λ r. r.map)
     (λ r q says leaves. λ i. record { answer = answer_says_injective r.answer q.answer says i; map = leaves i })
 
 -- each contract of the tree is the one that the demands speak of
-pub take_meant : (t : Tree) (n a : ℕ) (r : Changed) → TakeSays t n a r → Slots.TakeSays tree_view Changed answer_of (λ x. x.map) t n a r
+pub take_meant : (t : Tree) (n a : ℕ) (r : Changed Refusal Tree) → TakeSays t n a r → Slots.TakeSays tree_view (Changed Refusal Tree) answer_of (λ x. x.map) t n a r
 take_meant t n a r outcome = outcome
 
-pub claim_meant : (t : Tree) (s n : ℕ) (r : Changed) → ClaimSays t s n r → Slots.ClaimSays tree_view Changed answer_of (λ x. x.map) t s n r
+pub claim_meant : (t : Tree) (s n : ℕ) (r : Changed Refusal Tree) → ClaimSays t s n r → Slots.ClaimSays tree_view (Changed Refusal Tree) answer_of (λ x. x.map) t s n r
 claim_meant t s n r outcome = outcome
 
-pub free_meant : (t : Tree) (s n : ℕ) (r : Changed) → FreeSays t s n r → Slots.FreeSays tree_view Changed answer_of (λ x. x.map) t s n r
+pub free_meant : (t : Tree) (s n : ℕ) (r : Changed Refusal Tree) → FreeSays t s n r → Slots.FreeSays tree_view (Changed Refusal Tree) answer_of (λ x. x.map) t s n r
 free_meant t s n r outcome = outcome
 
-pub set_meant : (t : Tree) (s n : ℕ) (v : Bool) (r : Changed) → SetSays t s n v r → Slots.SetSays tree_view Changed answer_of (λ x. x.map) t s n v r
+pub set_meant : (t : Tree) (s n : ℕ) (v : Bool) (r : Changed Refusal Tree) → SetSays t s n v r → Slots.SetSays tree_view (Changed Refusal Tree) answer_of (λ x. x.map) t s n v r
 set_meant t s n v r outcome = outcome
 
-pub next_free_meant : (t : Tree) (s : ℕ) (r : NextFree) → NextFreeSays t s r → Slots.NextFreeSays tree_view Changed answer_of (λ x. x.map) t s (next_free_says r)
+pub next_free_meant : (t : Tree) (s : ℕ) (r : Result ℕ Refusal) → NextFreeSays t s r → Slots.NextFreeSays tree_view (Changed Refusal Tree) answer_of (λ x. x.map) t s (answer_says r)
 next_free_meant t s r outcome = outcome
 
-pub get_meant : (t : Tree) (i : ℕ) (r : Truth) → GetSays t i r → Slots.GetSays tree_view Changed answer_of (λ x. x.map) t i (truth_says r)
+pub get_meant : (t : Tree) (i : ℕ) (r : Result Bool Refusal) → GetSays t i r → Slots.GetSays tree_view (Changed Refusal Tree) answer_of (λ x. x.map) t i (answer_says r)
 get_meant t i r outcome = outcome
 
-pub empty_meant : (t : Tree) (r : Truth) → EmptySays t r → Slots.EmptySays tree_view Changed answer_of (λ x. x.map) t (truth_says r)
+pub empty_meant : (t : Tree) (r : Result Bool Refusal) → EmptySays t r → Slots.EmptySays tree_view (Changed Refusal Tree) answer_of (λ x. x.map) t (answer_says r)
 empty_meant t r outcome = outcome
 
-pub used_meant : (t : Tree) (r : Number) → UsedSays t r → Slots.UsedSays tree_view Changed answer_of (λ x. x.map) t (number_says r)
+pub used_meant : (t : Tree) (r : Result ℕ Refusal) → UsedSays t r → Slots.UsedSays tree_view (Changed Refusal Tree) answer_of (λ x. x.map) t (answer_says r)
 used_meant t r outcome = outcome
 
 -- a call by its contract is an outcome of a series
-pub a_call_runs : (m : Tree) (c : Asked) (r : Changed) → Leaves m (call_of 10 (slot_of m) c) r → Ran tree_view Changed answer_of (λ x. x.map) m (c ∷ []) (r ∷ [])
+pub a_call_runs : (m : Tree) (c : Asked) (r : Changed Refusal Tree) → Leaves m (call_of 10 (slot_of m) c) r → Ran tree_view (Changed Refusal Tree) answer_of (λ x. x.map) m (c ∷ []) (r ∷ [])
 a_call_runs m c r outcome = (outcome, tt)
 
 -- ---- sound trees
@@ -79,9 +76,9 @@ pub full_is_sound : (r : Tree) → NewFullSays r → Sound r
 full_is_sound r e = rw e (tree_view.made_sound all tt)
 
 -- the full summary is 65,535
-pub full_summary : (r : Tree) → NewFullSays r → r.summary ≡ 65535
+pub full_summary : (r : Tree) → NewFullSays r → r.stored.summary ≡ 65535
 unfolding number listed marks_of
-full_summary r e = ap (λ (t : Tree). t.summary) e
+full_summary r e = ap (λ (t : Tree). t.stored.summary) e
 
 -- a tree made of words is sound, and holds their slots
 pub holding_is_sound : (words : List ℕ) (r : Tree) → HoldingSays words r → Sound r
@@ -106,26 +103,26 @@ words_decide_outcomes Says one_answer t u st it su iu same =
 
 -- ---- the count tells whether the tree is sound: a crate above asks for it where check 1 is all that it asks of the tree
 
-module _ (t : Tree) (r : Number) (outcome : UsedSays t r) where
-  sound_said : tree_view.is_sound t ≡ true → number_says r ≡ value (count (slot_of t) 0 1024)
+module _ (t : Tree) (r : Result ℕ Refusal) (outcome : UsedSays t r) where
+  sound_said : tree_view.is_sound t ≡ true → answer_says r ≡ value (count (slot_of t) 0 1024)
   sound_said e = outcome ∙ found_sound tree_view t (used_call 10 (slot_of t)) e ∙ used_promise 10 (slot_of t)
 
-  unsound_said : tree_view.is_sound t ≡ false → number_says r ≡ refused 1
+  unsound_said : tree_view.is_sound t ≡ false → answer_says r ≡ refused 1
   unsound_said e = outcome ∙ found_unsound tree_view t (used_call 10 (slot_of t)) e
 
   -- it is refused only where the tree is not sound, and then with 1
-  pub refused_unsound : (why : Refusal) → r ≡ Refused why → (tree_view.is_sound t ≡ false) × (number_of why ≡ 1)
+  pub refused_unsound : (why : Refusal) → r ≡ Err why → (tree_view.is_sound t ≡ false) × (number_of why ≡ 1)
   refused_unsound why is =
       either (tree_view.is_sound t)
-      (λ yes. absurd (value≢refused _ _ (sym (sound_said yes) ∙ ap number_says is)))
-      (λ no. (no, refused_injective (sym (ap number_says is) ∙ unsound_said no)))
+      (λ yes. absurd (value≢refused _ _ (sym (sound_said yes) ∙ ap answer_says is)))
+      (λ no. (no, refused_injective (sym (ap answer_says is) ∙ unsound_said no)))
 
   -- and given only where it is, and is then the number of used slots
-  pub counted_sound : (n : ℕ) → r ≡ Is n → (tree_view.is_sound t ≡ true) × (n ≡ count (slot_of t) 0 1024)
+  pub counted_sound : (n : ℕ) → r ≡ Ok n → (tree_view.is_sound t ≡ true) × (n ≡ count (slot_of t) 0 1024)
   counted_sound n is =
       either (tree_view.is_sound t)
-      (λ yes. (yes, value_injective (sym (ap number_says is) ∙ sound_said yes)))
-      (λ no. absurd (value≢refused _ _ (sym (ap number_says is) ∙ unsound_said no)))
+      (λ yes. (yes, value_injective (sym (ap answer_says is) ∙ sound_said yes)))
+      (λ no. absurd (value≢refused _ _ (sym (ap answer_says is) ∙ unsound_said no)))
 
 -- ---- one answer: any two outcomes that a contract allows coincide
 
@@ -159,29 +156,29 @@ full_one_answer t r q p o = p ∙ sym o
 pub count_one_answer : (t : Tree) (r q : ℕ) → CountSays t r → CountSays t q → r ≡ q
 count_one_answer t r q p o = p ∙ sym o
 
-pub take_one_answer : (t : Tree) (n a : ℕ) (r q : Changed) → TakeSays t n a r → TakeSays t n a q → r ≡ q
+pub take_one_answer : (t : Tree) (n a : ℕ) (r q : Changed Refusal Tree) → TakeSays t n a r → TakeSays t n a q → r ≡ q
 take_one_answer t n a = (tree_demands.of_any t).one_answer (take_call 10 (slot_of t) n a)
 
-pub claim_one_answer : (t : Tree) (start n : ℕ) (r q : Changed) → ClaimSays t start n r → ClaimSays t start n q → r ≡ q
+pub claim_one_answer : (t : Tree) (start n : ℕ) (r q : Changed Refusal Tree) → ClaimSays t start n r → ClaimSays t start n q → r ≡ q
 claim_one_answer t start n = (tree_demands.of_any t).one_answer (claim_call 10 (slot_of t) start n)
 
-pub free_one_answer : (t : Tree) (start n : ℕ) (r q : Changed) → FreeSays t start n r → FreeSays t start n q → r ≡ q
+pub free_one_answer : (t : Tree) (start n : ℕ) (r q : Changed Refusal Tree) → FreeSays t start n r → FreeSays t start n q → r ≡ q
 free_one_answer t start n = (tree_demands.of_any t).one_answer (free_call 10 (slot_of t) start n)
 
-pub set_one_answer : (t : Tree) (start n : ℕ) (used : Bool) (r q : Changed) → SetSays t start n used r → SetSays t start n used q → r ≡ q
+pub set_one_answer : (t : Tree) (start n : ℕ) (used : Bool) (r q : Changed Refusal Tree) → SetSays t start n used r → SetSays t start n used q → r ≡ q
 set_one_answer t start n used = (tree_demands.of_any t).one_answer (set_call 10 (slot_of t) start n used)
 
-pub next_free_one_answer : (t : Tree) (start : ℕ) (r q : NextFree) → NextFreeSays t start r → NextFreeSays t start q → r ≡ q
-next_free_one_answer t start r q p o = next_free_says_injective r q (p ∙ sym o)
+pub next_free_one_answer : (t : Tree) (start : ℕ) (r q : Result ℕ Refusal) → NextFreeSays t start r → NextFreeSays t start q → r ≡ q
+next_free_one_answer t start r q p o = answer_says_injective r q (p ∙ sym o)
 
-pub get_one_answer : (t : Tree) (slot : ℕ) (r q : Truth) → GetSays t slot r → GetSays t slot q → r ≡ q
-get_one_answer t slot r q p o = truth_says_injective r q (p ∙ sym o)
+pub get_one_answer : (t : Tree) (slot : ℕ) (r q : Result Bool Refusal) → GetSays t slot r → GetSays t slot q → r ≡ q
+get_one_answer t slot r q p o = answer_says_injective r q (p ∙ sym o)
 
-pub empty_one_answer : (t : Tree) (r q : Truth) → EmptySays t r → EmptySays t q → r ≡ q
-empty_one_answer t r q p o = truth_says_injective r q (p ∙ sym o)
+pub empty_one_answer : (t : Tree) (r q : Result Bool Refusal) → EmptySays t r → EmptySays t q → r ≡ q
+empty_one_answer t r q p o = answer_says_injective r q (p ∙ sym o)
 
-pub used_one_answer : (t : Tree) (r q : Number) → UsedSays t r → UsedSays t q → r ≡ q
-used_one_answer t r q p o = number_says_injective r q (p ∙ sym o)
+pub used_one_answer : (t : Tree) (r q : Result ℕ Refusal) → UsedSays t r → UsedSays t q → r ≡ q
+used_one_answer t r q p o = answer_says_injective r q (p ∙ sym o)
 
 pub capacity_one_answer : (r q : ℕ) → CapacitySays r → CapacitySays q → r ≡ q
 capacity_one_answer r q p o = p ∙ sym o

@@ -28,11 +28,7 @@ abbrev pub stored_of : ℕ → ℕ → ℕ → Stored
 stored_of summary full count = record { summary = summary; full = full; count = count }
 
 abbrev pub tree_of : List ℕ → Stored → Tree
-tree_of words stored = record { words = words; summary = stored.summary; full = stored.full; count = stored.count }
-
--- what a tree has stored beside its words
-abbrev pub stored_in : Tree → Stored
-stored_in t = stored_of t.summary t.full t.count
+tree_of words stored = record { words = words; stored = stored }
 
 -- what is stored beside these words: their summary, their mark of full words, their count
 abbrev pub theirs : List ℕ → Stored
@@ -62,7 +58,7 @@ counted = keeping marked_full (also summarised (also bare (summary_kept 4 sixtee
 
 abbrev pub tree_view : View plain
 tree_view = carried counted Tree
-    (λ t. record { map = record { map = record { map = t.words; kept = t.summary }; kept = t.full }; kept = t.count })
+    (λ t. record { map = record { map = record { map = t.words; kept = t.stored.summary }; kept = t.stored.full }; kept = t.stored.count })
     (λ m. tree_of m.map.map.map (stored_of m.map.map.kept m.map.kept m.kept)) (λ S. refl) (λ t. refl)
 
 -- the calls that a series on a tree may hold: take, claim and free
@@ -84,9 +80,9 @@ IsTree t = tree_view.IsMap t
 
 -- summary bit i is 1 exactly if word i is not 0, bit i of the mark of full words is 1 exactly if word i is all ones, and the count is that of the used slots
 pub sound_means : (t : Tree) → Sound t
-    ↔ (((i : ℕ) → i < 16 → (digit t.summary i ≡ true) ↔ (get_or t.words i 0 ≡ 0 → ⊥))
-    × ((i : ℕ) → i < 16 → (digit t.full i ≡ true) ↔ (get_or t.words i 0 ≡ 2 ^ 64 - 1))
-    × (t.count ≡ count_of t.words))
+    ↔ (((i : ℕ) → i < 16 → (digit t.stored.summary i ≡ true) ↔ (get_or t.words i 0 ≡ 0 → ⊥))
+    × ((i : ℕ) → i < 16 → (digit t.stored.full i ≡ true) ↔ (get_or t.words i 0 ≡ 2 ^ 64 - 1))
+    × (t.stored.count ≡ count_of t.words))
 sound_means t = (
   λ sound. (sound.map_sound.map_sound.kept_agrees, sound.map_sound.kept_agrees, sound.kept_agrees),
   λ h. record {
@@ -96,17 +92,17 @@ sound_means t = (
 )
 
 -- which is to say that what is stored is theirs
-pub sound_by_stored : (t : Tree) → t.summary < 2 ^ 16 → t.full < 2 ^ 16 → Sound t ↔ (stored_in t ≡ theirs t.words)
+pub sound_by_stored : (t : Tree) → t.stored.summary < 2 ^ 16 → t.stored.full < 2 ^ 16 → Sound t ↔ (t.stored ≡ theirs t.words)
 sound_by_stored t summary_fits full_fits =
-    let summary = marks_agree not_zero NotZero finds_not_zero t.words t.summary summary_fits in
-    let full = marks_agree all_ones AllOnes finds_all_ones t.words t.full full_fits in (
+    let summary = marks_agree not_zero NotZero finds_not_zero t.words t.stored.summary summary_fits in
+    let full = marks_agree all_ones AllOnes finds_all_ones t.words t.stored.full full_fits in (
       λ sound. let h = (sound_means t).0 sound in (λ i. stored_of (summary.0 h.0 i) (full.0 h.1 i) (h.2 i)),
       λ e. (sound_means t).1 (summary.1 (ap (λ (s : Stored). s.summary) e), full.1 (ap (λ (s : Stored). s.full) e), ap (λ (s : Stored). s.count) e),
     )
 
 pub is_tree_means : (t : Tree) → IsTree t
-    ↔ ((length t.words ≡ 16) × ((i : ℕ) → i < 16 → get_or t.words i 0 < 2 ^ 64) × (t.summary < 2 ^ 16) × (t.full < 2 ^ 16)
-    × (t.count < 2 ^ 16))
+    ↔ ((length t.words ≡ 16) × ((i : ℕ) → i < 16 → get_or t.words i 0 < 2 ^ 64) × (t.stored.summary < 2 ^ 16) × (t.stored.full < 2 ^ 16)
+    × (t.stored.count < 2 ^ 16))
 is_tree_means t = (
   λ held. (held.is_map.is_map.is_map.so_many, held.is_map.is_map.is_map.each_fits, held.is_map.is_map.is_field, held.is_map.is_field, held.is_field),
   λ h. record {
@@ -127,8 +123,8 @@ count_means t held = ap (count (slot_of t) 0) (slots_are 4 sixteen_fit t.words (
 -- if all of them are, and the count is how many slots are used
 pub of_slots_means : (S : Slots)
     → ((i : ℕ) → i < 16 → ((p : ℕ) → p < 64 → digit (get_or (of_slots S).words i 0) p ≡ S (i * 64 + p))
-    × ((digit (of_slots S).summary i ≡ true) ↔ SomeUsed S (i * 64) 64) × ((digit (of_slots S).full i ≡ true) ↔ AllUsed S (i * 64) 64))
-    × ((of_slots S).count ≡ count S 0 1024)
+    × ((digit (of_slots S).stored.summary i ≡ true) ↔ SomeUsed S (i * 64) 64) × ((digit (of_slots S).stored.full i ≡ true) ↔ AllUsed S (i * 64) 64))
+    × ((of_slots S).stored.count ≡ count S 0 1024)
 of_slots_means S =
     let right = (sound_means (of_slots S)).0 (tree_view.made_sound S tt) in (
       λ i l.

@@ -8,41 +8,34 @@
 #![tactic(auto)]
 
 ghost use Rattle.tree.specs.Says.{NewEmptySays, NewFullSays, HoldingSays, WithSummarySays, WithFullSays, WithCountSays, WordsSays, SummarySays, FullSays, CountSays, TakeSays, ClaimSays, FreeSays, SetSays, NextFreeSays, GetSays, EmptySays, UsedSays, CapacitySays, StoredOfSays, SoundSays};
-ghost use Rattle.answers.specs.Answers.{left_by};
-ghost use Rattle.tree.specs.Inner.{RangeJudged, ChangeJudged, TakeJudged, painted_tree, set_tree, touched_stored};
-ghost use Rattle.tree.specs.Layout.{stored_in, tree_of};
+ghost use Rattle.answers.specs.Answers.{left_with};
+ghost use Rattle.tree.specs.Inner.{Checked, RangeJudged, ChangeJudged, TakeJudged, painted_tree, set_tree, touched_tree};
+ghost use Rattle.tree.specs.Layout.{IsTree};
 ghost use Rattle.views.specs.Count.{moved_count};
-ghost use Rattle.std.specs.Prelude.{◌≡◌, length};
+ghost use Rattle.std.specs.Prelude.{◌≡◌};
 
-use answers::{Answer, NextFree, Number, Refusal, Truth};
+use answers::{Changed, Refusal, Reply};
 use judges::Size;
-use rows::{FULL, SHIFTS, TABLE, USED};
+use rows::{Mark, Masks};
 
 // What is stored beside the words of a tree: bit i of the summary is 1 exactly if word i is not 0, bit i
 // of the mark of full words exactly if word i is all ones; and the count of used slots.
-#[derive(Clone, Copy)]
+#[derive(Clone, Copy, PartialEq, Eq)]
 pub struct Stored {
     pub summary: u16,
     pub full: u16,
     pub count: u16,
 }
 
-// Slot s is bit s % 64 of word s / 64; 1 means used.
+// Slot s is bit s % 64 of word s / 64; 1 means used. A call copies it by its fields: as one, it would be
+// copied by `memcpy`, which the archive for C must not need.
 #[derive(Clone, Copy)]
 pub struct Tree {
     words: [u64; 16],
-    summary: u16,
-    full: u16,
-    count: u16,
+    stored: Stored,
 }
 
-// What a change comes to, and the map it leaves.
-#[derive(Drop)]
-pub struct Changed {
-    pub answer: Answer,
-    pub map: Tree,
-}
-
+#[tactic(auto, using(crate::proofs::Values::is_tree), unfolding(slots::specs::Calls::capacity))]
 impl Tree {
     // The map with no slot used.
     pub fn new_empty() -> Tree
@@ -50,9 +43,11 @@ impl Tree {
     {
         Tree {
             words: [0; 16],
-            summary: 0,
-            full: 0,
-            count: 0,
+            stored: Stored {
+                summary: 0,
+                full: 0,
+                count: 0,
+            },
         }
     }
 
@@ -62,9 +57,11 @@ impl Tree {
     {
         Tree {
             words: [u64::MAX; 16],
-            summary: u16::MAX,
-            full: u16::MAX,
-            count: 1024,
+            stored: Stored {
+                summary: u16::MAX,
+                full: u16::MAX,
+                count: 1024,
+            },
         }
     }
 
@@ -72,7 +69,8 @@ impl Tree {
     pub fn holding(words: [u64; 16]) -> Tree
         ensures { HoldingSays words result }
     {
-        tree_of(words, stored_of(&words))
+        let stored = stored_of(&words);
+        Tree { words, stored }
     }
 
     // The same map with another summary, sound or not: what comes from outside can be either. Never
@@ -80,27 +78,33 @@ impl Tree {
     pub fn with_summary(self, summary: u16) -> Tree
         ensures { WithSummarySays self summary result }
     {
-        let mut tree = self;
-        tree.summary = summary;
-        tree
+        let stored = Stored {
+            summary,
+            ..self.stored
+        };
+        Tree { stored, ..self }
     }
 
     // The same map with another mark of full words, sound or not. Never refused.
     pub fn with_full(self, full: u16) -> Tree
         ensures { WithFullSays self full result }
     {
-        let mut tree = self;
-        tree.full = full;
-        tree
+        let stored = Stored {
+            full,
+            ..self.stored
+        };
+        Tree { stored, ..self }
     }
 
     // The same map with another stored count, sound or not. Never refused.
     pub fn with_count(self, count: u16) -> Tree
         ensures { WithCountSays self count result }
     {
-        let mut tree = self;
-        tree.count = count;
-        tree
+        let stored = Stored {
+            count,
+            ..self.stored
+        };
+        Tree { stored, ..self }
     }
 
     // The words, of every tree. Never refused.
@@ -114,154 +118,99 @@ impl Tree {
     pub fn summary(self) -> u16
         ensures { SummarySays self result }
     {
-        self.summary
+        self.stored.summary
     }
 
     // The mark of full words, of every tree. Never refused.
     pub fn full(self) -> u16
         ensures { FullSays self result }
     {
-        self.full
+        self.stored.full
     }
 
     // The stored count, of every tree. Never refused.
     pub fn count(self) -> u16
         ensures { CountSays self result }
     {
-        self.count
-    }
-
-    // What is stored beside the words.
-    fn stored(self) -> Stored
-        ensures { result ≡ stored_in self }
-    {
-        Stored {
-            summary: self.summary,
-            full: self.full,
-            count: self.count,
-        }
+        self.stored.count
     }
 
     // Takes n slots at the lowest free start that is a multiple of 2^a, and answers that start.
     // Refused, the lowest number first: 1 where the tree is not sound, 2 where n is 0, 3 where
     // a is 10 or more, 4 where n is above 1,024, 7 where no start fits. A refusal hands back
     // the very map.
-    pub fn take(self, n: usize, a: usize) -> Changed
+    pub fn take(self, n: usize, a: usize) -> Changed<Refusal, Tree>
         ensures { TakeSays self n a result }
     {
-        let mut words = self.words;
-        let stored = self.stored();
-        let found = judged_take(&words, stored, n, a);
-        match found {
-            NextFree::Refused(why) => Changed {
-                answer: Answer::Refused(why),
-                map: self,
-            },
-            NextFree::At(start) => {
-                let given = Answer::At(start);
-                let left = carried_out(&mut words, stored, given, start, n, true, SHIFTS);
-                Changed {
-                    answer: given,
-                    map: tree_of(words, left),
-                }
-            }
-        }
+        let mut map = Tree { ..self };
+        let answer = map.taken(n, a);
+        Changed { answer, map }
     }
 
     // Claims the n slots from `start` on, each of which must be free. Refused: 1 where the tree
     // is not sound, 2 where n is 0, 4 where the range does not end within 1,024 slots, 6 where
     // a slot is used. A refusal hands back the very map.
-    pub fn claim(self, start: usize, n: usize) -> Changed
+    pub fn claim(self, start: usize, n: usize) -> Changed<Refusal, Tree>
         ensures { ClaimSays self start n result }
     {
-        let mut words = self.words;
-        let stored = self.stored();
-        let judged = judged_change(&words, stored, start, n, true);
-        let left = carried_out(&mut words, stored, judged, start, n, true, TABLE);
-        Changed {
-            answer: judged,
-            map: tree_of(words, left),
-        }
+        let mut map = Tree { ..self };
+        let answer = map.claimed(start, n);
+        Changed { answer, map }
     }
 
     // Frees the n slots from `start` on, each of which must be used. Refused: 1 where the tree
     // is not sound, 2 where n is 0, 4 where the range does not end within 1,024 slots, 5 where
     // a slot is free already. A refusal hands back the very map.
-    pub fn free(self, start: usize, n: usize) -> Changed
+    pub fn free(self, start: usize, n: usize) -> Changed<Refusal, Tree>
         ensures { FreeSays self start n result }
     {
-        let mut words = self.words;
-        let stored = self.stored();
-        let judged = judged_change(&words, stored, start, n, false);
-        let left = carried_out(&mut words, stored, judged, start, n, false, SHIFTS);
-        Changed {
-            answer: judged,
-            map: tree_of(words, left),
-        }
+        let mut map = Tree { ..self };
+        let answer = map.freed(start, n);
+        Changed { answer, map }
     }
 
     // Gives the n slots from `start` on the value `used`, whatever they held. Refused: 1 where
     // the tree is not sound, 2 where n is 0, 4 where the range does not end within 1,024 slots.
     // A refusal hands back the very map.
-    pub fn set(self, start: usize, n: usize, used: bool) -> Changed
+    pub fn set(self, start: usize, n: usize, used: bool) -> Changed<Refusal, Tree>
         ensures { SetSays self start n used result }
     {
-        let mut words = self.words;
-        let stored = self.stored();
-        let judged = judged_range(&words, stored, start, n);
-        let left = set_out(&mut words, stored, judged, start, n, used);
-        Changed {
-            answer: judged,
-            map: tree_of(words, left),
-        }
+        let mut map = Tree { ..self };
+        let answer = map.given(start, n, used);
+        Changed { answer, map }
     }
 
     // The least free slot from `start` on. Refused: 1 where the tree is not sound, 4 where
     // `start` is 1,024 or more, 7 where no slot is free from there on.
-    pub fn next_free(self, start: usize) -> NextFree
+    pub fn next_free(self, start: usize) -> Result<usize, Refusal>
         ensures { NextFreeSays self start result }
     {
-        let stored = self.stored();
-        if !sound(&self.words, stored) {
-            return NextFree::Refused(Refusal::Unsound);
-        }
-        let fulls = [self.full];
+        let fulls = [self.checked()?.full];
         judges::next_free(&self.words, &fulls, Size::Tree, start)
     }
 
     // Whether the slot is used. Refused: 1 where the tree is not sound, 4 where the slot is
     // 1,024 or more.
-    pub fn get(self, slot: usize) -> Truth
+    pub fn get(self, slot: usize) -> Result<bool, Refusal>
         ensures { GetSays self slot result }
     {
-        let stored = self.stored();
-        if !sound(&self.words, stored) {
-            return Truth::Refused(Refusal::Unsound);
-        }
+        self.checked()?;
         judges::get(&self.words, Size::Tree, slot)
     }
 
     // Whether no slot is used: the summary alone tells it of a sound map. Refused: 1 where the
     // tree is not sound.
-    pub fn empty(self) -> Truth
+    pub fn empty(self) -> Result<bool, Refusal>
         ensures { EmptySays self result }
     {
-        let stored = self.stored();
-        if !sound(&self.words, stored) {
-            return Truth::Refused(Refusal::Unsound);
-        }
-        Truth::Is(self.summary == 0)
+        Ok(self.checked()?.summary == 0)
     }
 
     // How many slots are used: of a sound map the stored count. Refused: 1 where the tree is not sound.
-    pub fn used(self) -> Number
+    pub fn used(self) -> Result<u64, Refusal>
         ensures { UsedSays self result }
     {
-        let stored = self.stored();
-        if !sound(&self.words, stored) {
-            return Number::Refused(Refusal::Unsound);
-        }
-        Number::Is(self.count as u64)
+        Ok(self.checked()?.count as u64)
     }
 
     // How many slots there are, on every tree. Never refused.
@@ -270,143 +219,153 @@ impl Tree {
     {
         judges::capacity(Size::Tree)
     }
+
+    // ---- the changes, each in place: a refusal leaves the very map
+    // `IsTree` is asked, here and below: of a map behind a `&` the check knows how many words it has, but not
+    // that its numbers fit. No ghost field: it would stand in the record that every definition of `specs/`
+    // builds (`tree_of`).
+
+    fn taken(&mut self, n: usize, a: usize) -> Result<Reply, Refusal>
+        requires { IsTree self.old }
+        ensures { TakeSays self.old n a (left_with result self.new) }
+    {
+        let start = self.judged_take(n, a)?;
+        self.carry_out(start, n, true, Masks::Shifts);
+        Ok(Reply::At(start))
+    }
+
+    fn claimed(&mut self, start: usize, n: usize) -> Result<Reply, Refusal>
+        requires { IsTree self.old }
+        ensures { ClaimSays self.old start n (left_with result self.new) }
+    {
+        let done = self.judged_change(start, n, true)?;
+        self.carry_out(start, n, true, Masks::Table);
+        Ok(done)
+    }
+
+    fn freed(&mut self, start: usize, n: usize) -> Result<Reply, Refusal>
+        requires { IsTree self.old }
+        ensures { FreeSays self.old start n (left_with result self.new) }
+    {
+        let done = self.judged_change(start, n, false)?;
+        self.carry_out(start, n, false, Masks::Shifts);
+        Ok(done)
+    }
+
+    fn given(&mut self, start: usize, n: usize, used: bool) -> Result<Reply, Refusal>
+        requires { IsTree self.old }
+        ensures { SetSays self.old start n used (left_with result self.new) }
+    {
+        let done = self.judged_range(start, n)?;
+        self.set_out(start, n, used);
+        Ok(done)
+    }
+
+    // ---- check 1, in front of the judges
+
+    // What is stored, of a sound tree; refused with 1 where the tree is not sound.
+    fn checked(&self) -> Result<Stored, Refusal>
+        ensures { Checked self.now result }
+    {
+        if !sound(&self.words, self.stored) {
+            return Err(Refusal::Unsound);
+        }
+        Ok(self.stored)
+    }
+
+    // Done where the map is sound and the n slots from `start` on are a range of it, and else the refusal.
+    fn judged_range(&self, start: usize, n: usize) -> Result<Reply, Refusal>
+        ensures { RangeJudged self.now start n result }
+    {
+        self.checked()?;
+        judges::range(Size::Tree, start, n)
+    }
+
+    // Done where claim accepts, or free where `used` is false, and else the refusal.
+    fn judged_change(&self, start: usize, n: usize, used: bool) -> Result<Reply, Refusal>
+        ensures { ChangeJudged self.now start n used result }
+    {
+        self.checked()?;
+        judges::change(&self.words, Size::Tree, start, n, used)
+    }
+
+    // The start that take grants, or its refusal. The search goes by the mark of full words.
+    fn judged_take(&self, n: usize, a: usize) -> Result<usize, Refusal>
+        requires { IsTree self.now }
+        ensures { TakeJudged self.now n a result }
+    {
+        let marks = [self.checked()?.full];
+        judges::take(&self.words, &marks, Size::Tree, n, a)
+    }
+
+    // ---- an accepted call, carried out in the words
+
+    // The n slots from `start` on, which had the other value, get the value `used`: the bits of every word
+    // that they reach are brought up to date, and the count moves by n.
+    fn carry_out(&mut self, start: usize, n: usize, used: bool, masks: Masks)
+        ensures { self.new ≡ painted_tree self.old start n used }
+    {
+        rows::paint(&mut self.words, start, n, used, masks);
+        let count = moved(self.stored.count, n, used);
+        self.touch(start, n, count);
+    }
+
+    // The same where the slots may have held anything: they are counted anew.
+    fn set_out(&mut self, start: usize, n: usize, used: bool)
+        ensures { self.new ≡ set_tree self.old start n used }
+    {
+        rows::paint(&mut self.words, start, n, used, Masks::Table);
+        let counted = rows::count(&self.words);
+        self.touch(start, n, counted);
+    }
+
+    // Brings the bits of every word that the n slots from `start` on reach up to date, and stores this
+    // count.
+    fn touch(&mut self, start: usize, n: usize, counted: u16)
+        ensures { self.new ≡ touched_tree self.old start n counted }
+    {
+        self.stored = Stored {
+            summary: rows::touched(&self.words, self.stored.summary, start, n, Mark::Used),
+            full: rows::touched(&self.words, self.stored.full, start, n, Mark::Full),
+            count: counted,
+        };
+    }
 }
 
 // ---- what is stored
-
-// The tree with these words, and this beside them.
-fn tree_of(words: [u64; 16], stored: Stored) -> Tree
-    ensures { result ≡ tree_of words stored }
-{
-    Tree {
-        words,
-        summary: stored.summary,
-        full: stored.full,
-        count: stored.count,
-    }
-}
 
 // What a tree of these words has stored.
 pub fn stored_of(words: &[u64]) -> Stored
     ensures { StoredOfSays words.now result }
 {
     Stored {
-        summary: rows::marks(words, USED),
-        full: rows::marks(words, FULL),
+        summary: rows::marks(words, Mark::Used),
+        full: rows::marks(words, Mark::Full),
         count: rows::count(words),
     }
 }
 
-// Whether that is what is stored: all three fields agree with the words.
+// Whether that is what is stored: all three fields agree with the words. Not `stored_of(words) == stored`,
+// which takes 214 instructions where this takes 160.
 pub fn sound(words: &[u64], stored: Stored) -> bool
     ensures { SoundSays words.now stored result }
 {
-    if rows::marks(words, USED) != stored.summary {
+    if rows::marks(words, Mark::Used) != stored.summary {
         return false;
     }
-    if rows::marks(words, FULL) != stored.full {
+    if rows::marks(words, Mark::Full) != stored.full {
         return false;
     }
     rows::count(words) == stored.count
 }
 
-// ---- check 1, in front of the judges
-
-// Done where the map is sound and the n slots from `start` on are a range of it, and else the refusal.
-fn judged_range(words: &[u64], stored: Stored, start: usize, n: usize) -> Answer
-    ensures { RangeJudged words.now stored start n result }
-{
-    if !sound(words, stored) {
-        return Answer::Refused(Refusal::Unsound);
-    }
-    judges::range(Size::Tree, start, n)
-}
-
-// Done where claim accepts, or free where `used` is false, and else the refusal.
-fn judged_change(words: &[u64], stored: Stored, start: usize, n: usize, used: bool) -> Answer
-    ensures { ChangeJudged words.now stored start n used result }
-{
-    if !sound(words, stored) {
-        return Answer::Refused(Refusal::Unsound);
-    }
-    judges::change(words, Size::Tree, start, n, used)
-}
-
-// The start that take grants, or its refusal. The search goes by the mark of full words.
-fn judged_take(words: &[u64], stored: Stored, n: usize, a: usize) -> NextFree
-    requires { length words.now ≡ 16 }
-    ensures { TakeJudged words.now stored n a result }
-{
-    if !sound(words, stored) {
-        return NextFree::Refused(Refusal::Unsound);
-    }
-    let fulls = [stored.full];
-    judges::take(words, &fulls, Size::Tree, n, a)
-}
-
-// ---- a judged call, carried out in the words
-
-// On a refusal nothing, and else the n slots from `start` on, which had the other value, get the value
-// `used`. Answers what is stored then: the bits of every word that they reach are brought up to date,
-// and the count moves by n.
-fn carried_out(
-    words: &mut [u64; 16],
-    stored: Stored,
-    judged: Answer,
-    start: usize,
-    n: usize,
-    used: bool,
-    table: bool,
-) -> Stored
-    ensures { tree_of words.new result ≡ left_by judged (tree_of words.old stored) (painted_tree words.old stored start n used) }
-{
-    if let Answer::Refused(_) = judged {
-        return stored;
-    }
-    rows::paint(words, start, n, used, table);
-    let count = moved(stored.count, n, used);
-    touched(words, stored, start, n, count)
-}
-
-// The same where the slots may have held anything: they are counted anew.
-fn set_out(
-    words: &mut [u64; 16],
-    stored: Stored,
-    judged: Answer,
-    start: usize,
-    n: usize,
-    used: bool,
-) -> Stored
-    ensures { tree_of words.new result ≡ left_by judged (tree_of words.old stored) (set_tree words.old stored start n used) }
-{
-    if let Answer::Refused(_) = judged {
-        return stored;
-    }
-    rows::paint(words, start, n, used, TABLE);
-    let counted = rows::count(words);
-    touched(words, stored, start, n, counted)
-}
-
-// What is stored with the bits of every word that the n slots from `start` on reach brought up to date,
-// and this count.
-fn touched(words: &[u64], stored: Stored, start: usize, n: usize, count: u16) -> Stored
-    ensures { result ≡ touched_stored words.now stored start n count }
-{
-    Stored {
-        summary: rows::touched(words, stored.summary, start, n, USED),
-        full: rows::touched(words, stored.full, start, n, FULL),
-        count,
-    }
-}
-
-// The count with n more, or n fewer, in sixteen bits.
+// The count with n more, or n fewer, in sixteen bits: by the value that the slots get, as `moved_count` has it.
 fn moved(count: u16, n: usize, up: bool) -> u16
     ensures { result ≡ moved_count count n up }
 {
-    let before = count as usize;
-    let by = n % 65536;
+    let by = (n % 65536) as u16;
     if up {
-        return ((before + by) % 65536) as u16;
+        return count.wrapping_add(by);
     }
-    ((before + (65536 - by)) % 65536) as u16
+    count.wrapping_sub(by)
 }

@@ -1,4 +1,5 @@
 -- What a call on a word has to show at each way out, from what was said of the one word that it lends. Assumes nothing.
+use Rattle.std.specs.Prelude.{Ok, Err}
 use mathlib.Core.Path.{◌≡◌, sym, ap, ◌∙◌}
 use mathlib.Core.Bool.{Bool}
 use mathlib.Core.List.{List, [], ◌∷◌}
@@ -6,27 +7,29 @@ use Prim.Native.Nat.{ℕ}
 use native.Mathlib.Omega.{arith}
 use lib.Dec.{eqb, eqb→eq}
 use lib.ListN.{get_or}
-use Rattle.answers.specs.Answers.{Reply, answer_says}
-use Rattle.answers.specs.declared.Answer.{Answer}
+use Rattle.answers.specs.Said.{value, refused}
+use Rattle.answers.specs.Refusals.{number_of}
+use Rattle.answers.specs.Answers.{left_with}
+use Rattle.answers.specs.declared.Reply.{Reply}
+use Rattle.answers.specs.declared.Refusal.{Refusal}
 use Rattle.bits.specs.Range.{same_test}
 use Rattle.slots.specs.Sets.{Slots, all_free, painted, finds_all_free}
 use Rattle.slots.specs.Calls.{Call, says}
-use Rattle.slots.specs.View.{answered, sound_answers}
-use Rattle.slots.proofs.Outcomes.{carried_out_lem}
+use Rattle.slots.specs.View.{answered, sound_answers, says_refused}
+use Rattle.slots.proofs.Outcomes as AnyView
 use Rattle.views.specs.Painting.{slot_in}
 use Rattle.views.specs.Full.{filled, filled_unmarked, seen_from, seen_right}
 use Rattle.views.specs.Words.{one_word, word_held}
 use Rattle.views.proofs.Words.{painted_words_lem}
 use Rattle.views.specs.Summary.{word_free}
 use Rattle.word.specs.declared.Word.{Word}
-use Rattle.word.specs.declared.Changed.{Changed}
 use Rattle.word.specs.Layout.{word_of, slot_of, of_slots, word_view, IsWord, is_word_means, one_fits}
-use Rattle.word.specs.Inner.{painted_word, carried_out}
+use Rattle.word.specs.Inner.{painted_word}
 use Rattle.word.specs.Says.{Leaves}
 
--- an answer, with the map that was left
-pub with_map : (judge : Answer) (left map : Word) → left ≡ map → ◌≡◌ {A = Changed} (record { answer = judge; map = left }) (record { answer = judge; map = map })
-with_map judge left map e = ap (λ (w : Word). record { answer = judge; map = w }) e
+-- a refused call leaves the very map
+pub refuses : (w : Word) (call : Call Slots Reply) (why : Refusal) → refused (number_of why) ≡ answered word_view w call → Leaves w call (left_with (Err why) w)
+refuses w call why told = sym (says_refused word_view w call (number_of why) (sym told))
 
 module _ (w : Word) (held : IsWord w) where
   -- the one word that is lent holds the map's slots
@@ -59,9 +62,7 @@ module _ (w : Word) (held : IsWord w) where
       (λ e. found.1 (none.0 (eqb→eq w.bits 0 e))) (λ free. rw (none.1 (found.0 free)) tt)
       ∙ ap (λ (S : Slots). all_free S 0 64) lent
 
-  -- a judged call, carried out, is as its contract has it
+  -- and an accepted one, carried out, is as its contract has it
   pub carries : (call : Call Slots Reply) (s n : ℕ) (v : Bool) → call.after ≡ painted (slot_of w) s n v
-      → (judge : Answer) → answer_says judge ≡ answered word_view w call → (r : Changed) → r ≡ carried_out w.bits judge s n v → Leaves w call r
-  carries call s n v after judge told r e =
-      ap (λ (out : Changed). (answer_says out.answer, out.map)) e
-      ∙ carried_out_lem word_view w call (painted_word w.bits s n v) (λ reply said. painted_word_lem s n v ∙ ap of_slots (sym after)) judge told
+      → (reply : Reply) → value reply ≡ answered word_view w call → (left : Word) → left ≡ painted_word w.bits s n v → Leaves w call (left_with (Ok reply) left)
+  carries call s n v after reply told = AnyView.carries word_view w call s n v after (painted_word w.bits s n v) (λ sound reply said. painted_word_lem s n v) (Ok reply) told

@@ -12,11 +12,11 @@ cut_twice : (k : ℕ) → low_mask (min k 64) ≡ low_mask k
 unfolding low_mask
 cut_twice k = ap (λ (width : ℕ). 2 ^ width - 1) (omega arith)
 
-pub offset_bounds-width : goal.offset_bounds-width
-offset_bounds-width c = omega (arith, c.at_most_64-width.ensures)
+pub offset_bounds-min : goal.offset_bounds-min
+offset_bounds-min c = omega (arith, c.min.ensures)
 
 pub returns : goal.returns
 unfolding low_mask
 returns c =
-    let width = c.at_most_64-width in
+    let width = c.min in
     entry low_mask 65 _ refl width.result (omega (arith, width.ensures)) ∙ ap low_mask width.ensures ∙ cut_twice _

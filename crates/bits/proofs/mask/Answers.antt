@@ -1,4 +1,4 @@
--- `bits::mask` meets its contract: each answer is the case of `maskBetween` that the tests lead to, and ones kept and moved up are the ones asked
+-- `bits::mask` meets its contract: each answer is the case of `mask` that the tests lead to, and ones kept and moved up are the ones asked
 -- for, digit by digit. Assumes nothing.
 use mathlib.Core.Path.{◌≡◌, sym, ap, ◌∙◌}
 use mathlib.Core.Bool.{Bool, ◌&&◌}

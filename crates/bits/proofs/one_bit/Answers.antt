@@ -1,4 +1,4 @@
--- `bits::one_bit` meets its contract: each answer is the case of `oneBit` that the test leads to, and a one moved up to a place below 64 is not lost.
+-- `bits::one_bit` meets its contract: each answer is the case of `one_bit` that the test leads to, and a one moved up to a place below 64 is not lost.
 -- Assumes nothing.
 use mathlib.Core.Path.{ap, ◌∙◌}
 use Prim.Native.Nat.{◌^◌}

@@ -12,6 +12,6 @@ unfolding put_all
 returns c =
     let asked = c.args in
     c.put.ensures ∙ ap (λ (held : ℕ × List ℕ). put_in held end) (
-    c.put_number-after_length.ensures ∙ ap (λ (held : ℕ × List ℕ). put_in held (decimal asked.length)) (
+    c.put_number-after_length.ensures ∙ ap (λ (held : ℕ × List ℕ). put_in held (decimal asked.run.length)) (
     c.put-after_space.ensures ∙ ap (λ (held : ℕ × List ℕ). put_in held space) (
-    c.put_number-after_start.ensures ∙ ap (λ (held : ℕ × List ℕ). put_in held (decimal asked.start)) c.put-after_word.ensures)))
+    c.put_number-after_start.ensures ∙ ap (λ (held : ℕ × List ℕ). put_in held (decimal asked.run.start)) c.put-after_word.ensures)))

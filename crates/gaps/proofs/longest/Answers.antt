@@ -1,64 +1,41 @@
--- `gaps::longest` meets its contract: from run to run, with the longest so far (`Comparing`). Assumes nothing.
-use mathlib.Core.Path.{◌≡◌, sym, ap, ◌∙◌}
-use mathlib.Core.Bool.{false}
-use Prim.Native.Nat.{◌+◌, ◌-◌, ◌<◌}
-use native.Mathlib.Nat.{pos_of_ne-zero}
-use native.Mathlib.Omega.{arith}
+-- `gaps::longest` meets its contract: from the first run to the next, with the longest so far (`Comparing`). Assumes nothing.
+use Rattle.std.proofs.Common.{false, ap, arith}
 use Rattle.answers.specs.declared.Run.{Run}
-use Rattle.slots.specs.Sets.{Slots}
-use Rattle.slots.specs.Runs.{end_of, next_run, next_later, next_ends}
+use Rattle.slots.specs.Runs.{end_of, next_later, next_ends}
 use Rattle.slots.specs.Gaps.{having}
 use Rattle.views.specs.Painting.{slot_in}
-use Rattle.gaps.proofs.Turns.{comparing_first, comparing_on, comparing_none, comparing_past}
+use Rattle.gaps.proofs.Turns.{comparing_first, comparing_empty, comparing_on, comparing_none}
 use Rattle.gaps.proofs.longest.Goals as goal
-use Rattle.gaps.proofs.longest.Lts as lts
-use Rattle.gaps.proofs.longest.Reads as reads
-use Rattle.gaps.proofs.longest.Tie as tie
 
-abbrev After-next_run-found : Type 0
-After-next_run-found = lts.After-next_run tie.the-claims reads.Pre reads.Post goal.the-invariant-loop-from goal.the-decreases-loop-from
-
-abbrev Else-found-eq0 : Type 0
-Else-found-eq0 = lts.Else1 tie.the-claims reads.Pre reads.Post goal.the-invariant-loop-from goal.the-decreases-loop-from
-
-pub loop-from-init : goal.loop-from-init
-loop-from-init c = comparing_first (slot_in c.args.words.now)
-
-pub next_run-found-requires : goal.next_run-found-requires
-next_run-found-requires c = (c.requires, c.loop-from.invariant.inside)
-
--- the set, and the run that was found
-abbrev set_at : After-next_run-found → Slots
-set_at c = slot_in c.args.words.now
-
-some_at : (c : Else-found-eq0) → 0 < (next_run (having false (set_at c.before.before)) 1024 c.loop-from.from).length
-some_at c = rw (ap (λ (r : Run). r.length) (sym c.next_run-found.ensures)) (pos_of_ne-zero c.if-found-eq0.false)
-
-pub returns-then-found-eq0 : goal.returns-then-found-eq0
-returns-then-found-eq0 c =
-    let found = c.before.before.before in
-    comparing_none (set_at found) found.loop-from.best found.loop-from.from found.loop-from.invariant (ap (λ (r : Run). r.length) (sym found.next_run-found.ensures) ∙ c.if-found-eq0.true)
-
--- where the run ends
-ends_at : (c : After-next_run-found) → c.next_run-found.result.start + c.next_run-found.result.length ≡ end_of (next_run (having false (set_at c)) 1024 c.loop-from.from)
-ends_at c = ap end_of c.next_run-found.ensures
+pub returns-in_err-best : goal.returns-in_err-best
+returns-in_err-best c = rw c.from_residual.ensures (comparing_empty (slot_in c.args.words.now) c.in_err-best.ensures)
 
 pub overflow_add-from : goal.overflow_add-from
 overflow_add-from c =
-    let found = c.before.before.before.before.before in
-    record { fits = omega (arith, ends_at found, next_ends (having false (set_at found)) 1024 found.loop-from.from found.loop-from.invariant.inside) }
+    let ends = next_ends (having false (slot_in c.args.words.now)) 1024 0 (omega arith) in
+    record { fits = omega (arith, ap end_of c.in_ok-best.ensures.0, ends) }
 
-pub loop-from-smaller : goal.loop-from-smaller
-loop-from-smaller c =
-    let found = c.before.before.before.before.before in
-    omega (arith, ends_at found, some_at c.before.before.before, next_later (having false (set_at found)) 1024 found.loop-from.from found.loop-from.invariant.inside, found.loop-from-test.true)
+pub loop-next-init : goal.loop-next-init
+loop-next-init c =
+    let is = c.in_ok-best.ensures.0 in
+    rw is (comparing_first (slot_in c.args.words.now) (rw is at c.in_ok-best.ensures.1))
 
-pub loop-from-preserved : goal.loop-from-preserved
-loop-from-preserved c =
-    let found = c.before.before.before.before.before in
-    rw (ends_at found, c.better-best.ensures, found.next_run-found.ensures)
-    (comparing_on (set_at found) found.loop-from.best found.loop-from.from found.loop-from.invariant (some_at c.before.before.before))
+pub overflow_add-from-in-Some : goal.overflow_add-from-in-Some
+overflow_add-from-in-Some c =
+    let ends = next_ends (having false (slot_in c.args.words.now)) 1024 c.loop-next.from c.loop-next.invariant.inside in
+    record { fits = omega (arith, ap end_of c.in-Some.ensures.0, ends) }
+
+pub loop-next-smaller : goal.loop-next-smaller
+loop-next-smaller c =
+    let later = next_later (having false (slot_in c.args.words.now)) 1024 c.loop-next.from c.loop-next.invariant.inside in
+    let ends = next_ends (having false (slot_in c.args.words.now)) 1024 c.loop-next.from c.loop-next.invariant.inside in
+    omega (arith, ap end_of c.in-Some.ensures.0, ap (λ (r : Run). r.start) c.in-Some.ensures.0, c.in-Some.ensures.1, later, ends)
+
+pub loop-next-preserved : goal.loop-next-preserved
+loop-next-preserved c =
+    let is = c.in-Some.ensures.0 in
+    rw (c.better-best.ensures, is)
+    (comparing_on (slot_in c.args.words.now) c.loop-next.best c.loop-next.from c.loop-next.invariant (rw is at c.in-Some.ensures.1))
 
 pub returns : goal.returns
-returns c =
-    comparing_past (slot_in c.args.words.now) c.loop-from.best c.loop-from.from c.loop-from.invariant c.loop-from-test.false
+returns c = (comparing_none (slot_in c.args.words.now) c.loop-next.best c.loop-next.from c.loop-next.invariant c.in_default.ensures, c.loop-next.invariant.some)

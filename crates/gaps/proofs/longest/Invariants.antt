@@ -4,8 +4,8 @@ use Rattle.views.specs.Painting.{slot_in}
 use Rattle.gaps.proofs.Turns.{Comparing}
 use Rattle.gaps.proofs.longest.Given as goal
 
-abbrev pub invariant-loop-from : goal.invariant-loop-from
-invariant-loop-from l = Comparing (slot_in l.words) l.best l.from
+abbrev pub invariant-loop-next : goal.invariant-loop-next
+invariant-loop-next l = Comparing (slot_in l.words) l.best l.from
 
-abbrev pub decreases-loop-from : goal.decreases-loop-from
-decreases-loop-from l = 1024 - l.from
+abbrev pub decreases-loop-next : goal.decreases-loop-next
+decreases-loop-next l = 1024 - l.from

@@ -1,47 +1,35 @@
 -- `gaps::longest_free` meets its contract: 1, then 7, and else the longest run. Assumes nothing.
-use mathlib.Core.Path.{◌≡◌, sym, ap, ◌∙◌}
-use mathlib.Core.List.{List}
-use mathlib.Core.Bool.{true, false}
-use Prim.Native.Nat.{ℕ}
-use native.Mathlib.Nat.{pos_of_ne-zero}
-use Rattle.answers.specs.Said.{value}
+use Rattle.std.specs.Prelude.{Option, None, Some}
+use Rattle.std.specs.Option.{ok_or}
+use Rattle.std.proofs.Common.{◌≡◌, List, ℕ, sym, ap, ◌∙◌}
+use Rattle.std.proofs.lemmas.Result.{err_from_is_err_and}
+use Rattle.answers.specs.Said.{value, refused}
+use Rattle.answers.specs.Answers.{answer_says}
 use Rattle.answers.specs.declared.Run.{Run}
+use Rattle.answers.specs.declared.Refusal.TheVariants.{NoRoom}
+use Rattle.slots.specs.Calls.{says}
 use Rattle.slots.specs.View.{found_sound, found_unsound}
-use Rattle.slots.specs.Gaps.{longest_of, longest_call}
+use Rattle.slots.specs.Gaps.{longest_call}
 use Rattle.views.specs.Painting.{slot_in}
 use Rattle.tree.specs.Layout.{slot_of, tree_view}
+use Rattle.gaps.specs.Inner.{LongestSays}
 use Rattle.gaps.proofs.Outcomes.{longest_none, longest_some}
 use Rattle.gaps.proofs.longest_free.Goals as goal
-use Rattle.gaps.proofs.longest_free.Lts as lts
-use Rattle.gaps.proofs.longest_free.Reads as reads
-use Rattle.gaps.proofs.longest_free.Tie as tie
 
-abbrev After-longest-best : Type 0
-After-longest-best = lts.After-longest tie.the-claims reads.Pre reads.Post
+-- 7 where no run was found, and else the run
+said_of : (words : List ℕ) (r : Option Run) → LongestSays words r → answer_says (ok_or r NoRoom) ≡ says (longest_call 10 (slot_in words))
+said_of words None none = sym (longest_none (slot_in words) none)
+said_of words (Some found) is = ap value is.0 ∙ sym (longest_some (slot_in words) (rw (sym is.0) is.1))
 
-pub returns-then-not-is_sound : goal.returns-then-not-is_sound
-returns-then-not-is_sound c =
+pub returns-in_err-sound_words : goal.returns-in_err-sound_words
+returns-in_err-sound_words c =
     let t = c.args.tree in
-    sym (found_unsound tree_view t (longest_call 10 (slot_of t)) (sym c.is_sound.ensures ∙ c.if-not-is_sound.true))
-
--- the tree is sound, and the run that was found is its longest
-sound_at : (c : After-longest-best) → tree_view.is_sound c.args.tree ≡ true
-sound_at c = sym c.is_sound.ensures ∙ c.if-not-is_sound.false
-
-longest_at : (c : After-longest-best) → c.longest-best.result ≡ longest_of 10 false (slot_of c.args.tree)
-longest_at c = c.longest-best.ensures ∙ ap (λ (words : List ℕ). longest_of 10 false (slot_in words)) c.words-words.ensures
-
-pub returns-then-best-eq0 : goal.returns-then-best-eq0
-returns-then-best-eq0 c =
-    let found = c.before.before in
-    let t = found.args.tree in
-    sym (found_sound tree_view t (longest_call 10 (slot_of t)) (sound_at found)
-    ∙ longest_none (slot_of t) (ap (λ (r : Run). r.length) (sym (longest_at found)) ∙ c.if-best-eq0.true))
+    let said = err_from_is_err_and c.from_residual.result c.from_residual.ensures.1 in
+    rw (said.1, said.2) (ap refused c.in_err-sound_words.ensures.1 ∙ sym (found_unsound tree_view t (longest_call 10 (slot_of t)) c.in_err-sound_words.ensures.0))
 
 pub returns : goal.returns
 returns c =
-    let found = c.before.before in
-    let t = found.args.tree in
-    ap value (longest_at found)
-    ∙ sym (found_sound tree_view t (longest_call 10 (slot_of t)) (sound_at found)
-    ∙ longest_some (slot_of t) (rw (ap (λ (r : Run). r.length) (sym (longest_at found))) (pos_of_ne-zero c.if-best-eq0.false)))
+    let t = c.args.tree in
+    ap answer_says c.ok_or.ensures.value ∙ said_of _ c.longest.result c.longest.ensures
+    ∙ ap (λ (words : List ℕ). says (longest_call 10 (slot_in words))) c.in_ok-sound_words.ensures.1
+    ∙ sym (found_sound tree_view t (longest_call 10 (slot_of t)) c.in_ok-sound_words.ensures.0)

@@ -1,152 +1,84 @@
 -- `gaps::put_runs` meets its contract: from run to run, two numbers each (`Listing`). Assumes nothing.
-use mathlib.Core.Path.{◌≡◌, sym, ap, ◌∙◌}
-use mathlib.Core.Bool.{Bool}
-use mathlib.Core.List.{List}
-use Prim.Native.Nat.{ℕ, ◌+◌, ◌-◌, ◌*◌, ◌≤◌, ◌<◌}
-use native.Mathlib.Nat.{pos_of_ne-zero}
-use native.Mathlib.Omega.{arith}
-use lib.ListN.{length, length-set}
+use Rattle.std.proofs.Common.{◌+◌, ◌*◌, ◌≤◌, ◌<◌, length, length-set, ap, arith}
 use Rattle.answers.specs.declared.Run.{Run}
-use Rattle.slots.specs.Sets.{Slots}
 use Rattle.slots.specs.Runs.{end_of, next_run, next_later, next_ends}
 use Rattle.slots.specs.Gaps.{having}
 use Rattle.views.specs.Painting.{slot_in}
-use Rattle.gaps.proofs.Turns.{listing_first, listing_room, listing_long, listing_on, listing_none, listing_past}
+use Rattle.gaps.proofs.Turns.{listing_first, listing_room, listing_long, listing_on, listing_none}
 use Rattle.gaps.proofs.put_runs.Goals as goal
-use Rattle.gaps.proofs.put_runs.Lts as lts
-use Rattle.gaps.proofs.put_runs.Reads as reads
-use Rattle.gaps.proofs.put_runs.Tie as tie
+use Rattle.gaps.proofs.put_runs.Goals.{In-Some}
 
-abbrev After-next_run-next : Type 0
-After-next_run-next = lts.After-next_run tie.the-claims reads.Pre reads.Post goal.the-invariant-loop-from goal.the-decreases-loop-from
+pub loop-next-init : goal.loop-next-init
+loop-next-init c = listing_first (slot_in c.args.words.now) c.args.used c.args.list.now c.requires
 
-abbrev At-loop-from : Type 0
-At-loop-from = lts.At-loop tie.the-claims reads.Pre reads.Post goal.the-invariant-loop-from goal.the-decreases-loop-from
+pub next_run-requires : goal.next_run-requires
+next_run-requires c = c.loop-next.invariant.inside
 
-abbrev Else-next-eq0 : Type 0
-Else-next-eq0 = lts.Else1 tie.the-claims reads.Pre reads.Post goal.the-invariant-loop-from goal.the-decreases-loop-from
+-- ---- there is a run, and there is room for it
 
-pub loop-from-init : goal.loop-from-init
-loop-from-init c =
-    listing_first (slot_in c.args.words.now) c.args.used c.args.list.now c.requires.1
+ends_at : (c : In-Some) → end_of c.in-Some.next ≤ 1024
+ends_at c =
+    omega (arith, ap end_of c.in-Some.ensures.0, next_ends (having c.args.used (slot_in c.args.words.now)) 1024 c.loop-next.from c.loop-next.invariant.inside)
 
-pub next_run-next-requires : goal.next_run-next-requires
-next_run-next-requires c = (c.requires.0, c.loop-from.invariant.inside)
+some_at : (c : In-Some) → 0 < (next_run (having c.args.used (slot_in c.args.words.now)) 1024 c.loop-next.from).length
+some_at c = rw c.in-Some.ensures.0 at c.in-Some.ensures.1
 
--- ---- at the loop's head: the set, the value, and the numbers as they were
-
-abbrev set_at : At-loop-from → Slots
-set_at h = slot_in h.args.words.now
-
-abbrev value_at : At-loop-from → Bool
-value_at h = h.args.used
-
-abbrev before_at : At-loop-from → List ℕ
-before_at h = h.args.list.now
-
-long_at : (h : At-loop-from) → 1024 ≤ length (before_at h)
-long_at h = h.requires.1
-
-as_long : (h : At-loop-from) → length h.loop-from.list ≡ length (before_at h)
-as_long h = listing_long (set_at h) (value_at h) (before_at h) (long_at h) h.loop-from.list h.loop-from.count h.loop-from.from h.loop-from.invariant
-
--- ---- the next run
-
-abbrev head_of : After-next_run-next → At-loop-from
-head_of c = c.before.before
-
-abbrev run_at : After-next_run-next → Run
-run_at c = next_run (having (value_at (head_of c)) (set_at (head_of c))) 1024 (head_of c).loop-from.from
-
-starts_at : (c : After-next_run-next) → c.next_run-next.result.start ≡ (run_at c).start
-starts_at c = ap (λ (r : Run). r.start) c.next_run-next.ensures
-
-sizes_at : (c : After-next_run-next) → c.next_run-next.result.length ≡ (run_at c).length
-sizes_at c = ap (λ (r : Run). r.length) c.next_run-next.ensures
-
-ends_at : (c : After-next_run-next) → end_of (run_at c) ≤ 1024
-ends_at c = next_ends (having (value_at (head_of c)) (set_at (head_of c))) 1024 (head_of c).loop-from.from (head_of c).loop-from.invariant.inside
-
-pub shape_of-list-then-next-eq0 : goal.shape_of-list-then-next-eq0
-shape_of-list-then-next-eq0 c = as_long (head_of c.before.before.before)
-
-pub returns-then-next-eq0 : goal.returns-then-next-eq0
-returns-then-next-eq0 c =
-    let found = c.before.before.before in
-    let h = head_of found in
-    listing_none (set_at h) (value_at h) (before_at h) (long_at h) h.loop-from.list h.loop-from.count h.loop-from.from h.loop-from.invariant (sym (sizes_at found) ∙ c.if-next-eq0.true)
-
--- ---- it has a slot, and there is room for it
-
-abbrev found_of : Else-next-eq0 → After-next_run-next
-found_of c = c.before.before
-
-some_at : (c : Else-next-eq0) → 0 < (run_at (found_of c)).length
-some_at c = rw (sym (sizes_at (found_of c))) (pos_of_ne-zero c.if-next-eq0.false)
-
-room_at : (c : Else-next-eq0) → 2 * (head_of (found_of c)).loop-from.count + 2 ≤ 1024
+room_at : (c : In-Some) → 2 * c.loop-next.count + 2 ≤ 1024
 room_at c =
-    let h = head_of (found_of c) in
-    listing_room (set_at h) (value_at h) (before_at h) (long_at h) h.loop-from.list h.loop-from.count h.loop-from.from h.loop-from.invariant (some_at c)
+    listing_room (slot_in c.args.words.now) c.args.used c.args.list.now c.requires c.loop-next.list c.loop-next.count c.loop-next.from c.loop-next.invariant (some_at c)
 
-pub narrow-requires : goal.narrow-requires
-narrow-requires c = omega (arith, starts_at (found_of c.before), ends_at (found_of c.before))
+long_at : (c : In-Some) → 1024 ≤ length c.loop-next.list
+long_at c =
+    omega (arith, listing_long (slot_in c.args.words.now) c.args.used c.args.list.now c.requires c.loop-next.list c.loop-next.count c.loop-next.from c.loop-next.invariant, c.requires)
+
+pub overflow_cast-list : goal.overflow_cast-list
+overflow_cast-list c = record { fits = omega (arith, ends_at (goal.at.overflow_cast-list c).In-Some) }
 
 pub overflow_mul-list : goal.overflow_mul-list
-overflow_mul-list c = record { fits = omega (arith, room_at c.before.before) }
+overflow_mul-list c = record { fits = omega (arith, room_at (goal.at.overflow_mul-list c).In-Some) }
 
 pub offset_bounds-list-count : goal.offset_bounds-list-count
-offset_bounds-list-count c = record { fits = omega (arith, room_at c.before.before) }
+offset_bounds-list-count c = record { fits = omega (arith, room_at (goal.at.offset_bounds-list-count c).In-Some) }
 
 pub bounds-list-count : goal.bounds-list-count
 bounds-list-count c =
-    let h = head_of (found_of c.before.before) in
-    omega (arith, room_at c.before.before, as_long h, long_at h)
+    let found = (goal.at.bounds-list-count c).In-Some in
+    omega (arith, room_at found, long_at found)
 
-pub narrow-requires-in-loop-from : goal.narrow-requires-in-loop-from
-narrow-requires-in-loop-from c = let found = found_of c.before.before in omega (arith, sizes_at found, ends_at found)
+pub overflow_cast-list-in-Some : goal.overflow_cast-list-in-Some
+overflow_cast-list-in-Some c = record { fits = omega (arith, ends_at (goal.at.overflow_cast-list-in-Some c).In-Some) }
 
-pub overflow_mul-list-in-loop-from : goal.overflow_mul-list-in-loop-from
-overflow_mul-list-in-loop-from c = record { fits = omega (arith, room_at c.before.before.before) }
+pub overflow_mul-list-in-Some : goal.overflow_mul-list-in-Some
+overflow_mul-list-in-Some c = record { fits = omega (arith, room_at (goal.at.overflow_mul-list-in-Some c).In-Some) }
 
 pub overflow_add-list : goal.overflow_add-list
-overflow_add-list c = record { fits = omega (arith, room_at c.before.before.before) }
+overflow_add-list c = record { fits = omega (arith, room_at (goal.at.overflow_add-list c).In-Some) }
 
-pub offset_bounds-list-count-in-loop-from : goal.offset_bounds-list-count-in-loop-from
-offset_bounds-list-count-in-loop-from c = record { fits = omega (arith, room_at c.before.before.before) }
+pub offset_bounds-list-count-in-Some : goal.offset_bounds-list-count-in-Some
+offset_bounds-list-count-in-Some c = record { fits = omega (arith, room_at (goal.at.offset_bounds-list-count-in-Some c).In-Some) }
 
-pub bounds-list-count-in-loop-from : goal.bounds-list-count-in-loop-from
-bounds-list-count-in-loop-from c =
-    let h = head_of (found_of c.before.before.before) in
-    simp length-set (omega (arith, room_at c.before.before.before, as_long h, long_at h))
+pub bounds-list-count-in-Some : goal.bounds-list-count-in-Some
+bounds-list-count-in-Some c =
+    let found = (goal.at.bounds-list-count-in-Some c).In-Some in
+    simp length-set (omega (arith, room_at found, long_at found))
 
 pub overflow_add-count : goal.overflow_add-count
-overflow_add-count c = record { fits = omega (arith, room_at c.before.before.before) }
+overflow_add-count c = record { fits = omega (arith, room_at (goal.at.overflow_add-count c).In-Some) }
 
 pub overflow_add-from : goal.overflow_add-from
-overflow_add-from c =
-    let found = found_of c.before.before.before.before in
-    record { fits = omega (arith, starts_at found, sizes_at found, ends_at found) }
+overflow_add-from c = record { fits = omega (arith, ends_at (goal.at.overflow_add-from c).In-Some) }
 
-pub loop-from-smaller : goal.loop-from-smaller
-loop-from-smaller c =
-    let left = c.before.before.before.before in
-    let found = found_of left in
-    let h = head_of found in
-    omega (arith, starts_at found, sizes_at found, some_at left, found.loop-from-test.true, next_later (having (value_at h) (set_at h)) 1024 h.loop-from.from h.loop-from.invariant.inside)
+pub loop-next-smaller : goal.loop-next-smaller
+loop-next-smaller c =
+    let later = next_later (having c.args.used (slot_in c.args.words.now)) 1024 c.loop-next.from c.loop-next.invariant.inside in
+    omega (arith, ap (λ (r : Run). r.start) c.in-Some.ensures.0, c.in-Some.ensures.1, ends_at (goal.at.loop-next-smaller c).In-Some, later)
 
-pub loop-from-preserved : goal.loop-from-preserved
-loop-from-preserved c =
-    let left = c.before.before.before.before in
-    let found = found_of left in
-    let h = head_of found in
-    listing_on (set_at h) (value_at h) (before_at h) (long_at h) h.loop-from.list h.loop-from.count h.loop-from.from h.loop-from.invariant (some_at left)
-    _ _ (c.narrow.ensures ∙ starts_at found) (c.narrow-in-loop-from.ensures ∙ sizes_at found) _ (ap end_of found.next_run-next.ensures)
-
-pub shape_of-list : goal.shape_of-list
-shape_of-list c = as_long c.before.before
+pub loop-next-preserved : goal.loop-next-preserved
+loop-next-preserved c =
+    let is = c.in-Some.ensures.0 in
+    listing_on (slot_in c.args.words.now) c.args.used c.args.list.now c.requires c.loop-next.list c.loop-next.count c.loop-next.from c.loop-next.invariant
+    (some_at (goal.at.loop-next-preserved c).In-Some) _ _ (ap (λ (r : Run). r.start) is) (ap (λ (r : Run). r.length) is) _ (ap end_of is)
 
 pub returns : goal.returns
 returns c =
-    let h = c.before.before in
-    listing_past (set_at h) (value_at h) (before_at h) (long_at h) h.loop-from.list h.loop-from.count h.loop-from.from h.loop-from.invariant c.loop-from-test.false
+    listing_none (slot_in c.args.words.now) c.args.used c.args.list.now c.requires c.loop-next.list c.loop-next.count c.loop-next.from c.loop-next.invariant c.in_default.ensures

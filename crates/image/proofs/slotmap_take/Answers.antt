@@ -1,32 +1,17 @@
--- `image::slotmap_take` meets its contract: 16 before all, and then what the tree says. Assumes nothing.
-use mathlib.Core.Path.{◌∙◌}
+-- `image::slotmap_take` meets its contract: what the tree's take comes to on the bytes. Assumes nothing.
+use Rattle.std.proofs.Common.{rules, ◌∙◌}
 use mir.Syntax.{w32}
 use mir.ValLaws.{to_z-of_z}
 use Rattle.slots.specs.Calls.{take_call}
 use Rattle.tree.specs.declared.Tree.{Tree}
 use Rattle.tree.specs.Layout.{slot_of}
-use Rattle.image.specs.Says.{take}
-use Rattle.image.proofs.Outcomes.{told_none, long, told_change, take_short}
+use Rattle.image.proofs.Outcomes.{take_short}
 use Rattle.image.proofs.slotmap_take.Goals as goal
 
-pub returns-then-not-is_image : goal.returns-then-not-is_image
-returns-then-not-is_image c =
-    let asked = c.args in
-    told_none asked.image.now _ c.is_image.ensures c.if-not-is_image.true (take asked.n asked.a)
-
-pub held-requires : goal.held-requires
-held-requires c =
-    long c.args.image.now _ c.is_image.ensures c.if-not-is_image.false
-
-pub left_in-requires : goal.left_in-requires
-left_in-requires c =
-    let asked = c.args in (
-      long asked.image.now _ c.is_image.ensures c.if-not-is_image.false,
-      take_short c.held.result asked.n asked.a c.take-taken.result c.take-taken.ensures,
-    )
+pub on_image-requires-clause-short : goal.on_image-requires-clause-short
+on_image-requires-clause-short c = λ map changed said. take_short map c.args.n c.args.a changed (search rules)
 
 pub returns : goal.returns
 returns c =
-    let asked = c.args in
-    (λ i. (to_z-of_z w32 c.left_in.result (record { sfits = c.left_in.type_inv }) i, c.left_in.new.image))
-    ∙ told_change asked.image.now _ c.is_image.ensures c.if-not-is_image.false (λ (t : Tree). take_call 10 (slot_of t) asked.n asked.a) _ c.held.ensures _ c.take-taken.ensures _ _ c.left_in.ensures
+    (λ i. (to_z-of_z w32 c.on_image.result (record { sfits = c.on_image.type_inv }) i, c.on_image.new.image))
+    ∙ c.on_image.ensures (λ (t : Tree). take_call 10 (slot_of t) c.args.n c.args.a) (λ map changed said. search rules)

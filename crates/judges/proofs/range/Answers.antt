@@ -1,7 +1,7 @@
 -- `judges::range` meets its contract: each way out is the law of a range at the capacity of the size. Assumes nothing.
 use mathlib.Core.Path.{sym}
 use native.Mathlib.Omega.{arith}
-use Rattle.answers.specs.Answers.{ok}
+use Rattle.answers.specs.declared.Reply.TheVariants.{Done as ok}
 use Rattle.slots.proofs.Ways.{range_empty, range_starts_past, range_ends_past, range_inside}
 use Rattle.judges.specs.Sizes.{exponent_of}
 use Rattle.judges.proofs.range.Goals as goal

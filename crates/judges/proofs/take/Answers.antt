@@ -2,7 +2,7 @@
 use mathlib.Core.Path.{sym, ap, ◌∙◌}
 use native.Mathlib.Omega.{arith}
 use Rattle.answers.specs.Said.{on_value}
-use Rattle.answers.specs.Answers.{at}
+use Rattle.answers.specs.declared.Reply.TheVariants.{At as at}
 use Rattle.slots.proofs.Ways.{take_empty, take_too_aligned, take_too_many}
 use Rattle.slots.specs.Tries.{take_searched}
 use Rattle.views.specs.Painting.{slot_in}

@@ -1,18 +1,9 @@
--- `measured::left_in` meets its contract: the map's words, and the count of their slots. Assumes nothing.
-use mathlib.Core.Path.{sym, ap, ◌∙◌}
-use mathlib.Core.List.{List}
-use Prim.Native.Nat.{ℕ}
-use native.Mathlib.Omega.{arith}
+-- `measured::left_in` meets its contract: the words hold 64 slots each. Assumes nothing.
+use mathlib.Core.Path.{ap, ◌∙◌}
 use borrow.Author.Rules.{rules}
 use Rattle.bits.specs.Range.{count}
 use Rattle.views.specs.Painting.{slot_in, slots_all}
 use Rattle.measured.proofs.left_in.Goals as goal
 
-pub slice_bounds-count-end : goal.slice_bounds-count-end
-slice_bounds-count-end c = search rules
-
-pub returns : goal.returns
-returns c =
-    let left = c.words-left.result in
-    let all = slots_all left 16 (sym (slice_bounds-count-end c.before)) (omega arith) in
-    (λ i. ((c.count.ensures ∙ ap (count (slot_in left) 0) all) i, left)) ∙ ap (λ (words : List ℕ). (count (slot_in words) 0 1024, words)) c.words-left.ensures
+pub returns-clause-used : goal.returns-clause-used
+returns-clause-used g c = c.count.ensures ∙ ap (count (slot_in c.args.left) 0) (slots_all c.args.left g.row.N (search rules) c.requires)

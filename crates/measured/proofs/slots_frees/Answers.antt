@@ -1,16 +1,17 @@
--- `measured::slots_frees` meets its contract: what is left of the frees ends where all of them do. Assumes nothing.
-use mathlib.Core.Path.{ap}
-use Prim.Native.Nat.{◌-◌}
-use Rattle.measured.proofs.Turns.{begins, free_turn, none_to_free, finished}
+-- `measured::slots_frees` meets its contract: the fold over the starts is the series. Assumes nothing.
+use Rattle.std.proofs.Common.{◌∙◌, rules}
+use Rattle.std.proofs.lemmas.Iterator.{YieldsList-from_slice}
+use Rattle.std.proofs.lemmas.Iterator.Consumers.{fold_from_yields_List}
+use Rattle.slots.specs.Plain.{free}
+use Rattle.tree.specs.Layout.{tree_view}
+use Rattle.measured.specs.Series.{frees_of, left_after}
+use Rattle.measured.proofs.Turns.{frees_last, finished}
 use Rattle.measured.proofs.slots_frees.Goals as goal
-
-pub loop-i-init : goal.loop-i-init
-loop-i-init c = begins _ c.holding-map.ensures
-
-pub loop-i-preserved : goal.loop-i-preserved
-loop-i-preserved c = free_turn _ _ _ c.free.result.map c.loop-i-test.true c.loop-i.invariant (ap (λ o. o.1) c.free.ensures)
 
 pub returns : goal.returns
 returns c =
-    let at_head = c.loop-i in
-    finished (λ t. t.words) _ _ (none_to_free _ _ at_head.i c.loop-i-test.false at_head.invariant) c.left_in.ensures
+    let asked = c.args in
+    let turns = fold_from_yields_List _ (λ t start. left_after tree_view t (free start asked.n)) _ c.fold-map.result c.fold-map.ensures.ran
+    (YieldsList-from_slice asked.starts.now (cc)) (λ t start u q k. search rules) in
+    let ends = turns ∙ frees_last tree_view asked.n asked.starts.now c.holding.result in
+    finished tree_view (λ t. t.words) _ _ _ (frees_of asked.starts.now asked.n) _ _ _ c.holding.ensures ends c.words.ensures c.left_in.ensures.used c.left_in.ensures.words

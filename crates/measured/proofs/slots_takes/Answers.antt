@@ -1,15 +1,17 @@
--- `measured::slots_takes` meets its contract: what is left of the takes ends where all of them do. Assumes nothing.
-use mathlib.Core.Path.{ap}
-use Rattle.measured.proofs.Turns.{begins, take_turn, none_to_take, finished}
+-- `measured::slots_takes` meets its contract: the fold over the turns is the series. Assumes nothing.
+use Rattle.std.proofs.Common.{◌∙◌, arith, rules}
+use Rattle.std.proofs.lemmas.Iterator.{YieldsList-from_range}
+use Rattle.std.proofs.lemmas.Iterator.Consumers.{fold_from_yields_List}
+use Rattle.slots.specs.Plain.{take}
+use Rattle.tree.specs.Layout.{tree_view}
+use Rattle.measured.specs.Series.{takes_of, left_after}
+use Rattle.measured.proofs.Turns.{takes_last, finished}
 use Rattle.measured.proofs.slots_takes.Goals as goal
-
-pub loop-left-init : goal.loop-left-init
-loop-left-init c = begins _ c.holding-map.ensures
-
-pub loop-left-preserved : goal.loop-left-preserved
-loop-left-preserved c = take_turn _ _ _ c.take.result.map c.loop-left-test.true c.loop-left.invariant (ap (λ o. o.1) c.take.ensures)
 
 pub returns : goal.returns
 returns c =
-    let at_head = c.loop-left in
-    finished (λ t. t.words) _ _ (none_to_take _ _ at_head.left c.loop-left-test.false at_head.invariant) c.left_in.ensures
+    let asked = c.args in
+    let turns = fold_from_yields_List _ (λ t turn. left_after tree_view t (take asked.n asked.a)) _ c.fold-map.result c.fold-map.ensures.ran
+    (YieldsList-from_range 0 asked.times asked.times (cc) (omega arith)) (λ t turn u q k. search rules) in
+    let ends = turns ∙ takes_last tree_view asked.n asked.a asked.times 0 c.holding.result in
+    finished tree_view (λ t. t.words) _ _ _ (takes_of asked.n asked.a asked.times) _ _ _ c.holding.ensures ends c.words.ensures c.left_in.ensures.used c.left_in.ensures.words

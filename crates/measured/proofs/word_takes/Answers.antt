@@ -1,16 +1,17 @@
--- `measured::word_takes` meets its contract: what is left of the takes ends where all of them do. Assumes nothing.
-use mathlib.Core.Path.{ap}
-use mathlib.Core.List.{[], ◌∷◌}
-use Rattle.measured.proofs.Turns.{begins, take_turn, none_to_take, finished}
+-- `measured::word_takes` meets its contract: the fold over the turns is the series. Assumes nothing.
+use Rattle.std.proofs.Common.{ap, ◌∙◌, [], ◌∷◌, arith, rules}
+use Rattle.std.proofs.lemmas.Iterator.{YieldsList-from_range}
+use Rattle.std.proofs.lemmas.Iterator.Consumers.{fold_from_yields_List}
+use Rattle.slots.specs.Plain.{take}
+use Rattle.word.specs.Layout.{word_view}
+use Rattle.measured.specs.Series.{takes_of, left_after}
+use Rattle.measured.proofs.Turns.{takes_last, finished}
 use Rattle.measured.proofs.word_takes.Goals as goal
-
-pub loop-left-init : goal.loop-left-init
-loop-left-init c = begins _ c.holding-word.ensures
-
-pub loop-left-preserved : goal.loop-left-preserved
-loop-left-preserved c = take_turn _ _ _ c.take.result.map c.loop-left-test.true c.loop-left.invariant (ap (λ o. o.1) c.take.ensures)
 
 pub returns : goal.returns
 returns c =
-    let at_head = c.loop-left in
-    finished (λ w. w.bits ∷ []) _ _ (none_to_take _ _ at_head.left c.loop-left-test.false at_head.invariant) c.left_in_word.ensures
+    let asked = c.args in
+    let turns = fold_from_yields_List _ (λ t turn. left_after word_view t (take asked.n asked.a)) _ c.fold-map.result c.fold-map.ensures.ran
+    (YieldsList-from_range 0 asked.times asked.times (cc) (omega arith)) (λ t turn u q k. search rules) in
+    let ends = turns ∙ takes_last word_view asked.n asked.a asked.times 0 c.holding.result in
+    finished word_view (λ w. w.bits ∷ []) _ _ _ (takes_of asked.n asked.a asked.times) _ _ _ c.holding.ensures ends (ap (λ b. b ∷ []) c.bits.ensures) c.left_in.ensures.used c.left_in.ensures.words

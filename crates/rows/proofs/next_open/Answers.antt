@@ -1,6 +1,6 @@
 -- `rows::next_open` meets its contract: each word passed is marked, and each mark is asked once. Assumes nothing.
 use mathlib.Core.Path.{ap, ◌∙◌}
-use Prim.Native.Nat.{ℕ, ◌+◌, ◌-◌, ◌*◌, ◌/◌, ◌%◌}
+use Prim.Native.Nat.{ℕ, ◌+◌, ◌*◌, ◌/◌, ◌%◌}
 use native.Mathlib.Nat.{le_refl, le_trans}
 use native.Mathlib.Omega.{arith}
 use lib.Dec.{ltb}
@@ -29,7 +29,7 @@ returns-then-place-lt-PARTS c =
     let inv = c.loop-i.invariant in
     let i = c.loop-i.i in
     let place = c.first_free-place.result in
-    let told = c.first_free-place.ensures ∙ ap (λ (m : ℕ). free_from 6 (digit m) (i % 16)) c.wide.ensures in
+    let told = c.first_free-place.ensures ∙ ap (λ (m : ℕ). free_from 6 (digit m) (i % 16)) c.from.ensures in
     open_found fulls asked.from (i / 16 * 16 + place) (le_trans inv.0 (open_from_lem fulls i place told)) (omega (arith, c.loop-i-test.true, c.if-place-lt-PARTS.true))
     (open_at fulls i place told c.if-place-lt-PARTS.true)
     (λ j l b. either (ltb j i) (λ t. inv.2 j l (ltb-true j i t)) (λ t. marked_before fulls i place told j (ltb-false j i t) (omega (arith, c.if-place-lt-PARTS.true)) b))
@@ -43,7 +43,7 @@ loop-i-preserved c =
     let inv = c.loop-i.invariant in
     let i = c.loop-i.i in
     let place = c.first_free-place.result in
-    let told = c.first_free-place.ensures ∙ ap (λ (m : ℕ). free_from 6 (digit m) (i % 16)) c.wide.ensures in (
+    let told = c.first_free-place.ensures ∙ ap (λ (m : ℕ). free_from 6 (digit m) (i % 16)) c.from.ensures in (
       omega (arith, inv.0),
       omega (arith, c.loop-i-test.true),
       λ j l b. either (ltb j i) (λ t. inv.2 j l (ltb-true j i t)) (λ t. marked_before fulls i place told j (ltb-false j i t) b (omega (arith, c.if-place-lt-PARTS.false))),

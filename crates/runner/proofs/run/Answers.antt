@@ -5,4 +5,4 @@ use Rattle.runner.proofs.run.Goals as goal
 pub returns : goal.returns
 returns c =
     let asked = c.args in
-    run_map_runs asked.«record».now asked.report.now c.run_map-ran.result.answer _ _ c.run_map-ran.ensures
+    run_map_runs asked.«record».now asked.report.now c.run_map.result.answer _ _ c.run_map.ensures

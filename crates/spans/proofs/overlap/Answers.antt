@@ -5,7 +5,7 @@ use mathlib.Core.Bool.{◌&&◌}
 use Prim.Native.Nat.{ℕ, ◌≤◌}
 use native.Mathlib.Omega.{arith}
 use lib.Dec.{leb, leb→le, le→leb}
-use borrow.Author.Tests.{lt-ltb, le-ltb, le-leb, lt-leb}
+use borrow.Author.Tests.{le-ltb, le-leb, lt-leb}
 use Rattle.answers.specs.Said.{value, judged}
 use Rattle.answers.specs.Faults.{finds_le, finds_both}
 use Rattle.bits.specs.Range.{same_test}
@@ -18,18 +18,6 @@ in_order a b c d ab cd =
     let both = finds_both (leb a d) (leb c b) (finds_le a d) (finds_le c b) in
     rw (le-ltb b a ab, le-ltb d c cd)
     (ap value (same_test _ _ (λ t. omega (arith, both.0 t, le→leb)) (λ t. both.1 (omega (arith, leb→le)))))
-
-pub returns-then-x_last-x_first : goal.returns-then-x_last-x_first
-unfolding overlaps judged
-returns-then-x_last-x_first c =
-    let asked = c.args in
-    rw (lt-ltb asked.x_last asked.x_first (omega arith))
-
-pub returns-then-y_last-y_first : goal.returns-then-y_last-y_first
-unfolding overlaps judged
-returns-then-y_last-y_first c =
-    let asked = c.args in
-    rw (le-ltb asked.x_last asked.x_first (omega arith), lt-ltb asked.y_last asked.y_first (omega arith))
 
 pub returns-then-x_first-y_last : goal.returns-then-x_first-y_last
 returns-then-x_first-y_last c =

@@ -1,34 +1,21 @@
--- `third::total` meets its contract: before each count, the total is the sum of those before it. Assumes nothing.
-use mathlib.Core.Path.{refl, ap, ap₂, ◌∙◌}
-use Prim.Native.Nat.{◌+◌, ◌-◌}
+-- `third::total` meets its contract: sixteen numbers below 2 ^ 16 are added. Assumes nothing.
+use mathlib.Core.Path.{◌≡◌, ◌∙◌}
 use native.Mathlib.Omega.{arith}
-use Rattle.views.specs.Trees.{sum_first, sum_on}
+use lib.ListN.{length}
+use borrow.Author.Rules.{rules}
+use Prim.Native.Nat.{◌≤◌, ◌^◌}
+use Rattle.std.proofs.Common.{sum}
+use Rattle.std.proofs.lemmas.Iterator.{YieldsList-from_slice}
+use Rattle.std.proofs.lemmas.Iterator.Adapters.{fits_from_length, at_most_from_yields_List}
+use Rattle.third.proofs.Outcomes.{sum_is}
 use Rattle.third.proofs.total.Goals as goal
 
-pub loop-i-init : goal.loop-i-init
-unfolding sum_first
-loop-i-init c = (omega arith, refl, omega arith)
-
-pub offset_bounds-counts-i : goal.offset_bounds-counts-i
-offset_bounds-counts-i c = omega arith
-
-pub bounds-counts-i : goal.bounds-counts-i
-bounds-counts-i c = omega arith
-
-pub overflow_add-total : goal.overflow_add-total
-overflow_add-total c = let inv = c.loop-i.invariant in omega (arith, inv.0, inv.2, c.wide-total.ensures.1)
-
-pub overflow_add-i : goal.overflow_add-i
-overflow_add-i c = omega (arith, c.loop-i.invariant.0)
-
-pub loop-i-smaller : goal.loop-i-smaller
-loop-i-smaller c = omega arith
-
-pub loop-i-preserved : goal.loop-i-preserved
-loop-i-preserved c =
-    let counts = c.args.counts.now in
-    let inv = c.loop-i.invariant in
-    (omega (arith, c.loop-i-test.true), ap₂ ◌+◌ inv.1 c.wide-total.ensures.0 ∙ sum_on counts c.loop-i.i, omega (arith, inv.2, c.wide-total.ensures.1))
+pub sum-requires-clause-fits : goal.sum-requires-clause-fits
+sum-requires-clause-fits c =
+    let few : length c.args.counts.now ≤ 16 = omega arith in
+    fits_from_length _ _ 16 (2 ^ 64) (at_most_from_yields_List (YieldsList-from_slice c.args.counts.now cc) few) c.map.ensures.closure (omega arith) (λ x r q k. search rules)
 
 pub returns : goal.returns
-returns c = c.loop-i.invariant.1 ∙ ap (sum_first c.args.counts.now) (omega (arith, c.loop-i.invariant.0, c.loop-i-test.false))
+returns c =
+    let added : c.sum.result ≡ sum c.args.counts.now = search rules in
+    added ∙ sum_is c.args.counts.now c.told-counts

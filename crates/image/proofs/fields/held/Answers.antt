@@ -8,4 +8,4 @@ pub returns : goal.returns
 unfolding held_in
 returns c =
     c.with_summary.ensures
-    ∙ (λ i. let t = (c.holding.ensures ∙ ap holding c.words_in-words.ensures) i in tree_of t.words (stored_of (c.two_at-summary.ensures i) t.full t.count))
+    ∙ (λ i. let t = (c.holding.ensures ∙ ap holding c.words_in-words.ensures) i in tree_of t.words (stored_of (c.two_at-summary.ensures i) t.stored.full t.stored.count))

@@ -8,9 +8,6 @@ use Rattle.image.proofs.Turns.{put_in_turn}
 use borrow.Author.Rules.{rules}
 use Rattle.image.proofs.fields.put.Goals as goal
 
-pub slice_bounds-put_words-end : goal.slice_bounds-put_words-end
-slice_bounds-put_words-end c = search rules
-
 pub returns : goal.returns
 returns c =
     let asked = c.args in

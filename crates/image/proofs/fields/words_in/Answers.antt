@@ -1,27 +1,15 @@
--- `image::fields::words_in` meets its contract: a word each turn. Assumes nothing.
-use mathlib.Core.Path.{refl}
-use Prim.Native.Nat.{◌-◌}
-use native.Mathlib.Omega.{arith}
-use lib.ListN.{length-set}
-use Rattle.image.proofs.Turns.{word_read, all_read}
-use borrow.Author.Rules.{rules}
+-- `image::fields::words_in` meets its contract: each word is that of the bytes. Assumes nothing.
+use Rattle.std.proofs.Common.{◌≡◌, ◌∙◌, [], get_or, rules, arith, refl}
+use Rattle.std.specs.Int.{from_le_bytes, w64}
+use Rattle.image.proofs.Numbers.{word_at}
+use Rattle.image.proofs.Turns.{each_made, words_read}
 use Rattle.image.proofs.fields.words_in.Goals as goal
-
-pub loop-i-init : goal.loop-i-init
-loop-i-init c = (search rules, omega arith, refl)
-
-pub loop-i-preserved : goal.loop-i-preserved
-loop-i-preserved c =
-    let inv = c.loop-i.invariant in
-    let words = c.loop-i.words in
-    let i = c.loop-i.i in
-    let inside = c.loop-i-test.true in (
-      simp length-set inv.0,
-      omega (arith, inside),
-      word_read c.args.image.now words inv.0 i c.eight_at.result inside inv.2 c.eight_at.ensures,
-    )
 
 pub returns : goal.returns
 returns c =
-    let inv = c.loop-i.invariant in
-    all_read c.args.image.now c.loop-i.words inv.0 c.loop-i.i c.loop-i-test.false inv.2
+    let image = c.args.image.now in
+    let parts = c.as_chunks.result.0 in
+    let made = c.from_fn.ensures.items in
+    words_read image _ made.long (λ i l.
+    each_made _ (λ f. f.0 ≡ parts) (λ k. from_le_bytes w64 (get_or parts.now k [])) _ (λ p k y q held called. (search rules, search rules)) 16 0 _ refl made.each i (omega arith) l
+    ∙ word_at image parts.now i [] c.requires l c.as_chunks.ensures.front)

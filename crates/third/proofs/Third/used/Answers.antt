@@ -1,22 +1,24 @@
 -- `third::Third::used` meets its contract: 1 where the map is not sound, and else the sum of the stored counts. Assumes nothing.
-use mathlib.Core.Path.{sym, ap, ◌∙◌}
+use Rattle.std.proofs.Common.{sym, ap, ◌∙◌}
+use Rattle.std.proofs.lemmas.Result.{err_from_is_err_and}
 use Rattle.answers.specs.Said.{value}
+use Rattle.slots.specs.Calls.{used_call}
 use Rattle.slots.specs.Promises.{used_promise}
-use Rattle.slots.proofs.Outcomes.{shown_unsound, shown_sound}
-use Rattle.third.specs.Layout.{third_view, slot_of}
+use Rattle.views.specs.Trees.{sum_first}
+use Rattle.third.specs.declared.Third.{Third}
+use Rattle.third.specs.Layout.{slot_of}
 use Rattle.third.proofs.Values.{is_third}
-use Rattle.third.proofs.Outcomes.{used_shown}
+use Rattle.third.proofs.Outcomes.{check_refuses, check_passes, used_shown}
 use Rattle.third.proofs.Third.used.Goals as goal
 
-pub sound-requires : goal.sound-requires
-sound-requires c = is_third c.args.self c.well_formed.0
-
-pub returns-then-not-sound : goal.returns-then-not-sound
-returns-then-not-sound c =
-    sym (shown_unsound third_view c.args.self _ _ c.sound.ensures c.if-not-sound.true)
+pub returns-in_err-checked : goal.returns-in_err-checked
+returns-in_err-checked c =
+    let said = err_from_is_err_and c.from_residual.result c.from_residual.ensures.1 in
+    rw (said.1, said.2) (check_refuses c.args.self _ _ c.in_err-checked.ensures)
 
 pub returns : goal.returns
 returns c =
     let t = c.args.self in
-    ap value (c.total.ensures ∙ used_shown t (is_third t c.well_formed.0) (sym c.sound.ensures ∙ c.if-not-sound.false))
-    ∙ sym (shown_sound third_view t _ _ c.sound.ensures c.if-not-sound.false ∙ used_promise 14 (slot_of t))
+    let found = c.in_ok-checked.ensures in
+    let total = c.total.ensures ∙ ap (λ (map : Third). sum_first map.counts 16) found.0 in
+    ap value (total ∙ used_shown t (is_third t c.well_formed.0) (sym found.1)) ∙ sym (used_promise 14 (slot_of t)) ∙ check_passes t (used_call 14 (slot_of t)) found.1

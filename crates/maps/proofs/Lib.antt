@@ -1,0 +1,3 @@
+pub mod Judged
+pub mod JudgedTree
+pub mod JudgedThird

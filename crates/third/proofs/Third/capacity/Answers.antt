@@ -1,7 +1,0 @@
--- `third::Third::capacity` meets its contract: the capacity of its size. Assumes nothing.
-use Rattle.slots.specs.Calls.{capacity}
-use Rattle.third.proofs.Third.capacity.Goals as goal
-
-pub returns : goal.returns
-unfolding capacity
-returns c = c.capacity.ensures

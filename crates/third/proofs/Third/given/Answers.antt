@@ -1,0 +1,22 @@
+-- `third::Third::given` meets its contract: what was judged, carried out. Assumes nothing.
+use Rattle.std.proofs.lemmas.Result.{err_from_is_err_and}
+use Rattle.slots.specs.Calls.{set_call}
+use Rattle.slots.specs.Promises.{set_after}
+use Rattle.slots.specs.View.{answered}
+use Rattle.third.specs.Layout.{slot_of}
+use Rattle.third.proofs.Outcomes.{refuses, carries}
+use Rattle.third.proofs.Third.given.Goals as goal
+
+pub returns-in_err-done : goal.returns-in_err-done
+unfolding answered set_call
+returns-in_err-done c =
+    let asked = c.args in
+    let said = err_from_is_err_and c.from_residual.result c.from_residual.ensures.1 in
+    rw (said.1, said.2) (refuses asked.self.now (set_call 14 (slot_of asked.self.now) asked.start asked.n asked.used) _ c.in_err-done.ensures)
+
+pub returns : goal.returns
+unfolding answered set_call
+returns c =
+    let asked = c.args in
+    let t = asked.self.now in
+    carries t c.requires (set_call 14 (slot_of t) asked.start asked.n asked.used) asked.start asked.n asked.used (set_after 14 (slot_of t) asked.start asked.n asked.used) _ c.in_ok-done.ensures _ c.carry_out.ensures

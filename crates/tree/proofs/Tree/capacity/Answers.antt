@@ -1,7 +1,0 @@
--- `tree::Tree::capacity` meets its contract: the capacity of its size. Assumes nothing.
-use Rattle.slots.specs.Calls.{capacity}
-use Rattle.tree.proofs.Tree.capacity.Goals as goal
-
-pub returns : goal.returns
-unfolding capacity
-returns c = c.capacity.ensures
